@@ -1,0 +1,7 @@
+// The two values of a bit.
+
+#[derive(Clone, Copy, PartialEq, Eq, Debug)]
+pub enum Bit {
+    One,
+    Zero,
+}

@@ -1,0 +1,63 @@
+// The numbers of the refusals, and how a flaw becomes a fault on its way up.
+ghost use mathlib.Core.Path.{_≡_};
+ghost use Rattle.faults.specs.Numbers.{flawNumber, refusalNumber};
+ghost use Rattle.faults.specs.Checks.{lastCheck, located};
+use super::fault::Fault;
+use super::fault::Flaw;
+use super::fault::Form;
+use super::fault::Refusal;
+
+impl Flaw {
+    pub fn number(self) -> u8
+        ensures { λ r. ⌜ r ≡ flawNumber self ⌝ }
+    {
+        match self {
+            Flaw::Numbers => 1,
+            Flaw::Length => 2,
+            Flaw::Content => 3,
+            Flaw::BlockSize => 4,
+            Flaw::Room => 5,
+            Flaw::Unlawful => 6,
+        }
+    }
+}
+
+impl Refusal {
+    pub fn number(self) -> u8
+        ensures { λ r. ⌜ r ≡ refusalNumber self ⌝ }
+    {
+        match self {
+            Refusal::NoBay => 7,
+            Refusal::NoSign => 8,
+            Refusal::Beyond => 9,
+            Refusal::Behind => 10,
+            Refusal::TooFew => 11,
+        }
+    }
+}
+
+/// The last bay lies from 1 to 65,535.
+pub fn check_last(last: u32) -> Result<(), Flaw>
+    ensures { λ r. ⌜ r ≡ lastCheck last ⌝ }
+{
+    match last {
+        1..=65535 => Ok(()),
+        _ => Err(Flaw::Numbers),
+    }
+}
+
+/// Says of a check to which part of which form it belongs.
+pub trait Located: Sized {
+    fn at(self, form: Form, part: u8) -> Result<(), Fault>;
+}
+
+pub impl Located for Result<(), Flaw> as FlawLocated {
+    fn at(self, form: Form, part: u8) -> Result<(), Fault>
+        ensures { λ r. ⌜ r ≡ located form part self ⌝ }
+    {
+        match self {
+            Ok(()) => Ok(()),
+            Err(flaw) => Err(Fault { flaw, form, part }),
+        }
+    }
+}

@@ -1,0 +1,54 @@
+-- A whole round: next is called until it gives none, and the round is closed.
+use mathlib.Core.Path.{_≡_}
+use mathlib.Core.List.{List, [], _∷_}
+use mathlib.Core.Bool.{Bool, true}
+use Prim.Native.Nat.{ℕ, zero, suc, _-_}
+use lib.ListN.{length}
+use Rattle.std.specs.declared.option.Option.{Option}
+use Rattle.std.specs.declared.option.Option.the-variants.{Some, None}
+use Rattle.sets.specs.Lists.{ListOf}
+use Rattle.round.specs.declared.state.Report.{Report}
+use Rattle.round.specs.declared.state.Taken.{Taken}
+use Rattle.round.specs.Machine.{end, common, nextFrom}
+use Rattle.round.specs.States.{fresh, afterNext}
+use Rattle.round.specs.Stretches.{Between, Fewest}
+
+-- what each next gave, and the closing report
+pub record Whole : Type 0 where
+  pub rows : List Taken
+  pub report : Report
+
+abbrev pub before : Taken → Whole → Whole
+before t r = record { rows = t ∷ r .rows; report = r .report }
+
+-- what follows a next that leaves the state s: nothing if it gave none
+abbrev pub onward : Option ℕ → Report → Whole → Whole
+onward None s r = record { rows = []; report = s }
+onward (Some b) s r = r
+
+-- at most m calls of next from the state s on
+unfoldable pub play : List Bool → List Bool → ℕ → Report → Whole
+play f c zero s = record { rows = []; report = s }
+play f c (suc m) s =
+    let w = nextFrom f c (s .place) in
+    before (record { bay = w .bay; stretches = w .stretches }) (onward (w .bay) (afterNext f c s) (play f c m (afterNext f c s)))
+
+-- a next for each bay, and one that gives none, suffice
+unfoldable pub wholeRound : List Bool → List Bool → Whole
+wholeRound f c = play f c (suc (end f c)) fresh
+
+-- the bays in the rows, in order
+abbrev pub bayAnd : Option ℕ → List ℕ → List ℕ
+bayAnd None bays = bays
+bayAnd (Some b) bays = b ∷ bays
+
+abbrev pub baysOf : List Taken → List ℕ
+baysOf [] = []
+baysOf (t ∷ rows) = bayAnd (t .bay) (baysOf rows)
+
+-- all common bays are handed out, each once and rising, by the fewest stretches that cut all bays, and the round ends behind the last
+pub record Complete (f c : List Bool) (r : Whole) : Type 0 where
+  pub bays : ListOf (λ j. common f c j ≡ true) (baysOf (r .rows))
+  pub handed : r .report .handed ≡ length (baysOf (r .rows))
+  pub fewest : Fewest f c (Between 1 (suc (end f c))) (r .report .stretches)
+  pub place : r .report .place ≡ suc (end f c)

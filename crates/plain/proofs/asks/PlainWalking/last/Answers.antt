@@ -1,0 +1,6 @@
+use mathlib.Core.Path.{sym}
+use Rattle.plain.specs.Decoding.{set-length}
+use Rattle.plain.proofs.asks.PlainWalking.last.Needs as need
+
+pub returns : need.returns
+returns c = sym (set-length _ _)

@@ -1,0 +1,7 @@
+use mathlib.Core.Path.{refl}
+use native.Mathlib.Omega.{arith}
+use Rattle.plain.proofs.Blank.{blank-bit}
+use Rattle.plain.proofs.index.Plain.empty.Needs as need
+
+pub ghost-result : need.ghost-result
+ghost-result c = (omega arith, (omega arith, (refl, (λ i l. blank-bit i, tt))))

@@ -1,0 +1,6 @@
+pub mod Tests
+pub mod Bays
+pub mod Lawful
+pub mod Ranks
+pub mod Same
+pub mod Only

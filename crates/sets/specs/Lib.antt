@@ -1,0 +1,4 @@
+pub mod Search
+pub mod Lists
+pub mod Sets
+pub mod Laws

@@ -1,0 +1,2 @@
+pub mod Garage
+pub mod Cases
