@@ -93,6 +93,6 @@ module _ (f c : List Bool) where
         };
         handed = p .handed ∙ omega arith;
         fewest = subst (λ (n : ℕ). Fewest f c (Between 1 (suc (end f c))) n) same
-          (subst (λ (place : ℕ). Fewest f c (Between 1 place) (p .stretches)) (p .ends) (made-fewest f c 1 (r .report .place) (baysOf (r .rows)) (p .stretches) (p .way)));
+            (subst (λ (place : ℕ). Fewest f c (Between 1 place) (p .stretches)) (p .ends) (made-fewest f c 1 (r .report .place) (baysOf (r .rows)) (p .stretches) (p .way)));
         place = p .ends;
       }

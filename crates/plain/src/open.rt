@@ -4,11 +4,11 @@ ghost use mathlib.Core.List.{[], _∷_};
 ghost use Rattle.plain.specs.Opening.{opening, OpeningIs, Opened};
 use super::index::Plain;
 use bits::check;
-use faults::check_last;
 use faults::Fault;
 use faults::FlawLocated;
 use faults::Form;
 use faults::Located;
+use faults::check_last;
 
 const NO_MEMBER: [u8; 1] = [0];
 

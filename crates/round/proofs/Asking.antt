@@ -91,16 +91,22 @@ module _ (f : List Bool) (w p : ℕ) (in-round : p ≤ w) where
   of-two : (a b : ℕ) → b ≤ w → PreviousIs f Members p (Some a) → NextIs f Members p (Some b) → Near (nearer p (Some a) (Some b))
   of-two a b top below above =
       cond-both (leb (p - a) (b - p)) (Some a) (Some b) Near
-      (λ t. let less : p - a ≤ b - p = leb-true (p - a) (b - p) t in
-      (omega (arith, below .0), below .1, λ j l e. ⊎-elim
-      (λ h. (omega (arith, below .0), λ same. omega (arith, below .0)))
-      (λ h. (omega (arith, below .0, above .0), λ same. omega (arith, below .0, above .0)))
-      (outside a b j below above e)))
-      (λ t. let more : b - p < p - a = leb-false (p - a) (b - p) t in
-      (top, above .1, λ j l e. ⊎-elim
-      (λ h. (omega (arith, below .0, above .0), λ same. absurd (omega (arith, below .0, above .0))))
-      (λ h. (omega (arith, above .0), λ same. omega (arith, above .0)))
-      (outside a b j below above e)))
+      (λ t. let less : p - a ≤ b - p = leb-true (p - a) (b - p) t in (
+        omega (arith, below .0),
+        below .1,
+        λ j l e. ⊎-elim
+            (λ h. (omega (arith, below .0), λ same. omega (arith, below .0)))
+            (λ h. (omega (arith, below .0, above .0), λ same. omega (arith, below .0, above .0)))
+            (outside a b j below above e),
+      ))
+      (λ t. let more : b - p < p - a = leb-false (p - a) (b - p) t in (
+        top,
+        above .1,
+        λ j l e. ⊎-elim
+            (λ h. (omega (arith, below .0, above .0), λ same. absurd (omega (arith, below .0, above .0))))
+            (λ h. (omega (arith, above .0), λ same. omega (arith, above .0)))
+            (outside a b j below above e),
+      ))
 
   nearer-is : (below above : Option ℕ) → PreviousIs f Members p below → NextIs f Members p above → Near (nearer p below (upTo w above))
   nearer-is None None lb la = λ j l. ⊎-elim (λ h. la j (omega arith)) (λ h. lb j h) (cases-lt p j)

@@ -33,9 +33,18 @@ pub record Made (f c : List Bool) (p e : ℕ) (bays : List ℕ) (n : ℕ) : Type
 module _ (f c : List Bool) where
   pub made-none : (p : ℕ) → Made f c p p [] 0
   made-none p = record {
-    rises = omega arith; shared = λ j h. absurd h; all = λ j l h e. absurd (omega arith);
-    rows = []; rows-many = refl; lawful = tt; apart = tt; covers = λ j h. absurd (omega (arith, h .0, h .1)); inside = λ j h. absurd h;
-    marks = []; marks-many = refl; spread = omega arith;
+    rises = omega arith;
+    shared = λ j h. absurd h;
+    all = λ j l h e. absurd (omega arith);
+    rows = [];
+    rows-many = refl;
+    lawful = tt;
+    apart = tt;
+    covers = λ j h. absurd (omega (arith, h .0, h .1));
+    inside = λ j h. absurd h;
+    marks = [];
+    marks-many = refl;
+    spread = omega arith;
   }
 
   -- one stretch: a common bay,
@@ -46,10 +55,15 @@ module _ (f c : List Bool) where
         rises = (omega arith, omega arith, omega arith);
         shared = λ j m. ⊎-elim (λ same. ap (common f c) same ∙ e) (λ b. absurd b) m;
         all = λ j from to k. inl (omega arith);
-        rows = record { first = p; past = p + 1 } ∷ []; rows-many = refl;
-        lawful = ((l, omega arith, subst (Lawful f c p) r (reach-lawful f c p h)), tt); apart = (λ j a b. b, tt);
-        covers = λ j h. inl h; inside = λ j m. ⊎-elim (λ a. a) (λ b. absurd b) m;
-        marks = p ∷ []; marks-many = refl; spread = (omega arith, omega arith, omega arith);
+        rows = record { first = p; past = p + 1 } ∷ [];
+        rows-many = refl;
+        lawful = ((l, omega arith, subst (Lawful f c p) r (reach-lawful f c p h)), tt);
+        apart = (λ j a b. b, tt);
+        covers = λ j h. inl h;
+        inside = λ j m. ⊎-elim (λ a. a) (λ b. absurd b) m;
+        marks = p ∷ [];
+        marks-many = refl;
+        spread = (omega arith, omega arith, omega arith);
       }
 
   -- or bays of which none is common
@@ -59,12 +73,18 @@ module _ (f c : List Bool) where
       let past = larger-past f c p h e in
       let top = larger-end f c p in
       record {
-        rises = omega arith; shared = λ j m. absurd m;
+        rises = omega arith;
+        shared = λ j m. absurd m;
         all = λ j from to k. absurd (both-ways _ (passes-none f c p j h e from to) k);
-        rows = record { first = p; past = larger f c p } ∷ []; rows-many = refl;
-        lawful = ((l, top, subst (Lawful f c p) r (reach-lawful f c p h)), tt); apart = (λ j a b. b, tt);
-        covers = λ j h. inl h; inside = λ j m. ⊎-elim (λ a. a) (λ b. absurd b) m;
-        marks = p ∷ []; marks-many = refl; spread = (omega arith, omega arith, omega arith);
+        rows = record { first = p; past = larger f c p } ∷ [];
+        rows-many = refl;
+        lawful = ((l, top, subst (Lawful f c p) r (reach-lawful f c p h)), tt);
+        apart = (λ j a b. b, tt);
+        covers = λ j h. inl h;
+        inside = λ j m. ⊎-elim (λ a. a) (λ b. absurd b) m;
+        marks = p ∷ [];
+        marks-many = refl;
+        spread = (omega arith, omega arith, omega arith);
       }
 
   -- one way after the other
@@ -76,21 +96,21 @@ module _ (f c : List Bool) where
         rises = steps-join suc p q e bays bays' (a .rises) (b .rises);
         shared = λ j m. ⊎-elim (λ x. a .shared j x) (λ x. b .shared j x) (any-split (λ y. j ≡ y) bays bays' m);
         all = λ j from to k. ⊎-elim
-          (λ before. any-left (λ y. j ≡ y) bays bays' (a .all j from before k))
-          (λ after. any-right (λ y. j ≡ y) bays bays' (b .all j after to k))
-          (cases-lt j q);
+            (λ before. any-left (λ y. j ≡ y) bays bays' (a .all j from before k))
+            (λ after. any-right (λ y. j ≡ y) bays bays' (b .all j after to k))
+            (cases-lt j q);
         rows = a .rows ++ b .rows;
         rows-many = length-append (a .rows) (b .rows) ∙ (λ i. a .rows-many i + b .rows-many i);
         lawful = each-join (Stretch f c) (a .rows) (b .rows) (a .lawful) (b .lawful);
         apart = apart-join (a .rows) (b .rows) (a .apart) (b .apart) (λ j x y. omega (arith, a .inside j x .1, b .inside j y .0));
         covers = λ j h. ⊎-elim
-          (λ before. any-left (Has j) (a .rows) (b .rows) (a .covers j (h .0, before)))
-          (λ after. any-right (Has j) (a .rows) (b .rows) (b .covers j (after, h .1)))
-          (cases-lt j q);
+            (λ before. any-left (Has j) (a .rows) (b .rows) (a .covers j (h .0, before)))
+            (λ after. any-right (Has j) (a .rows) (b .rows) (b .covers j (after, h .1)))
+            (cases-lt j q);
         inside = λ j m. ⊎-elim
-          (λ x. let s = a .inside j x in (s .0, omega (arith, s .1)))
-          (λ x. let s = b .inside j x in (omega (arith, s .0), s .1))
-          (any-split (Has j) (a .rows) (b .rows) m);
+            (λ x. let s = a .inside j x in (s .0, omega (arith, s .1)))
+            (λ x. let s = b .inside j x in (omega (arith, s .0), s .1))
+            (any-split (Has j) (a .rows) (b .rows) m);
         marks = a .marks ++ b .marks;
         marks-many = length-append (a .marks) (b .marks) ∙ (λ i. a .marks-many i + b .marks-many i);
         spread = steps-join (reach f c) p q e (a .marks) (b .marks) (a .spread) (b .spread);
@@ -102,10 +122,16 @@ module _ (f c : List Bool) where
 
   take-out : (rows : List Row) (x : ℕ) → Each (Stretch f c) rows → In rows x → (fewer : List Row) × Less rows x fewer
   take-out [] x ok m = absurd m
-  take-out (r ∷ rows) x ok (inl here) =
-      (rows, (refl, ok .1, λ y l m. ⊎-elim
-        (λ both. absurd (omega (arith, longest f c (r .first) x (r .past) (ok .0 .2) (here .0) (here .1) (ok .0 .1), both .1)))
-        (λ other. other) m))
+  take-out (r ∷ rows) x ok (inl here) = (
+    rows,
+    (
+      refl,
+      ok .1,
+      λ y l m. ⊎-elim
+          (λ both. absurd (omega (arith, longest f c (r .first) x (r .past) (ok .0 .2) (here .0) (here .1) (ok .0 .1), both .1)))
+          (λ other. other) m,
+    ),
+  )
   take-out (r ∷ rows) x ok (inr there) =
       let on = take-out rows x (ok .1) there in
       (r ∷ on .0, (ap suc (on .1 .0), (ok .0, on .1 .1), λ y l m. ⊎-elim (λ a. inl a) (λ b. inr (on .1 .2 y l b)) m))
@@ -129,6 +155,6 @@ module _ (f c : List Bool) where
   made-fewest p e bays n m = record {
     some = (m .rows, (record { lawful = m .lawful; apart = m .apart; all = m .covers; only = m .inside }, m .rows-many));
     least = λ rows cut.
-      let many : length (m .marks) ≤ length rows = as-many (m .marks) rows p e (m .spread) (cut .lawful) (λ x k. cut .all x (steps-in (reach f c) p e (m .marks) x (m .spread) k)) in
-      omega (arith, m .marks-many);
+        let many : length (m .marks) ≤ length rows = as-many (m .marks) rows p e (m .spread) (cut .lawful) (λ x k. cut .all x (steps-in (reach f c) p e (m .marks) x (m .spread) k)) in
+        omega (arith, m .marks-many);
   }

@@ -84,10 +84,10 @@ module _ (f c : List Bool) (s₀ : Report) (out₀ : List ℕ) where
       record {
         size = length-set out n q ∙ i .size;
         wrote = i .wrote
-          ∙ ap (λ (k : ℕ). onto (take n out) (s .stretches - s₀ .stretches) (sheetFrom f c k (s .place))) less
-          ∙ ap (onto (take n out) (s .stretches - s₀ .stretches)) (sheet-some f c (length out₀ - (n + 1)) (s .place) q (sym e))
-          ∙ onto-onto (take n out) q (s .stretches - s₀ .stretches) (w .stretches) (sheetFrom f c (length out₀ - (n + 1)) (w .place))
-          ∙ (λ j. onto (front j) (diff j) (sheetFrom f c (length out₀ - (n + 1)) (sym place' j)));
+            ∙ ap (λ (k : ℕ). onto (take n out) (s .stretches - s₀ .stretches) (sheetFrom f c k (s .place))) less
+            ∙ ap (onto (take n out) (s .stretches - s₀ .stretches)) (sheet-some f c (length out₀ - (n + 1)) (s .place) q (sym e))
+            ∙ onto-onto (take n out) q (s .stretches - s₀ .stretches) (w .stretches) (sheetFrom f c (length out₀ - (n + 1)) (w .place))
+            ∙ (λ j. onto (front j) (diff j) (sheetFrom f c (length out₀ - (n + 1)) (sym place' j)));
         kept = drop-set-lt (n + 1) out n q (omega arith) ∙ sym (drop-drop 1 n out) ∙ ap (drop 1) (i .kept) ∙ drop-drop 1 n out₀;
         many = omega (arith, i .many);
         grown = omega arith;
@@ -119,10 +119,10 @@ module _ (f c : List Bool) (s₀ : Report) (out₀ : List ℕ) where
       let stretches' : s' .stretches ≡ s .stretches + w .stretches = ap (λ (x : Report). x .stretches) g in
       let handed' : s' .handed ≡ s .handed + 0 = ap (λ (x : Report). x .handed) g ∙ ap (λ (o : Option ℕ). s .handed + handedBy o) (sym e) in
       done n (s .stretches - s₀ .stretches + w .stretches) (s' .place) s' out (omega arith) (i .size) (i .kept) (omega (arith, i .many)) (omega arith)
-        (i .wrote
-          ∙ ap (λ (k : ℕ). onto (take n out) (s .stretches - s₀ .stretches) (sheetFrom f c k (s .place))) less
-          ∙ ap (onto (take n out) (s .stretches - s₀ .stretches)) (sheet-none f c (length out₀ - (n + 1)) (s .place) (sym e))
-          ∙ (λ j. record { bays = take n out ++ []; place = sym place' j; stretches = s .stretches - s₀ .stretches + w .stretches }))
+      (i .wrote
+      ∙ ap (λ (k : ℕ). onto (take n out) (s .stretches - s₀ .stretches) (sheetFrom f c k (s .place))) less
+      ∙ ap (onto (take n out) (s .stretches - s₀ .stretches)) (sheet-none f c (length out₀ - (n + 1)) (s .place) (sym e))
+      ∙ (λ j. record { bays = take n out ++ []; place = sym place' j; stretches = s .stretches - s₀ .stretches + w .stretches }))
 
   pub done-full : (n : ℕ) (s : Report) (out : List ℕ) → n ≡ length out₀ → Going f c s₀ out₀ n s out → Done f c s₀ out₀ s out
   done-full n s out h i =
@@ -131,5 +131,5 @@ module _ (f c : List Bool) (s₀ : Report) (out₀ : List ℕ) where
       let t = s .stretches - s₀ .stretches in
       let sum : t + 0 ≡ t = omega arith in
       done n t (s .place) s out (omega arith) (i .size) (i .kept) (i .many) (omega arith)
-        (i .wrote ∙ ap (λ (k : ℕ). onto (take n out) t (sheetFrom f c k (s .place))) less ∙ ap (onto (take n out) t) (sheet-full f c (s .place))
-         ∙ (λ j. record { bays = take n out ++ []; place = s .place; stretches = sum j }))
+      (i .wrote ∙ ap (λ (k : ℕ). onto (take n out) t (sheetFrom f c k (s .place))) less ∙ ap (onto (take n out) t) (sheet-full f c (s .place))
+      ∙ (λ j. record { bays = take n out ++ []; place = s .place; stretches = sum j }))

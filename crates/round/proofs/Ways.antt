@@ -28,9 +28,10 @@ module _ {A : Type 0} (P : A → Type 0) where
 
 pub apart-join : (rows more : List Row) → Apart rows → Apart more → ((j : ℕ) → In rows j → In more j → ⊥) → Apart (rows ++ more)
 apart-join [] more h k n = k
-apart-join (r ∷ rows) more h k n =
-    (λ j here there. ⊎-elim (λ l. h .0 j here l) (λ m. n j (inl here) m) (any-split (Has j) rows more there),
-     apart-join rows more (h .1) k (λ j a b. n j (inr a) b))
+apart-join (r ∷ rows) more h k n = (
+  λ j here there. ⊎-elim (λ l. h .0 j here l) (λ m. n j (inl here) m) (any-split (Has j) rows more there),
+  apart-join rows more (h .1) k (λ j a b. n j (inr a) b),
+)
 
 -- from p to e by steps: each number is at or above where the step from the one before it ends
 module _ (g : ℕ → ℕ) where

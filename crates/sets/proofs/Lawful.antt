@@ -24,9 +24,10 @@ is-outside s k i out =
     (cases-lt (length s) i)
 
 pub sorts-part : Sorts-part
-sorts-part s i =
-    (λ bay. (is-inside s Members i (bay .0) (bay .1), is-inside s Others i (bay .0) (bay .1)),
-     λ out. (is-outside s Members i out, is-outside s Others i out))
+sorts-part s i = (
+  λ bay. (is-inside s Members i (bay .0) (bay .1), is-inside s Others i (bay .0) (bay .1)),
+  λ out. (is-outside s Members i out, is-outside s Others i out),
+)
 
 next-from : (s : List Bool) (k : Sort) (i : ℕ) (r : Option ℕ) → FirstIs (is s k) i (suc (length s) - i) r → NextIs s k i r
 next-from s k i None law = λ j l. ⊎-elim (λ g. is-beyond s k j g) (λ g. law j l (omega arith)) (cases-lt (length s) j)

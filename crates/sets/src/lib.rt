@@ -62,5 +62,4 @@ pub fn laws_hold()
     ensures rank { λ _. ⌜ Rank-counts ⌝ }
     ensures select { λ _. ⌜ Select-ranks ⌝ }
     ensures members { λ _. ⌜ Sets-by-members ⌝ }
-{
-}
+{}

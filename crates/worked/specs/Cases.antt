@@ -76,9 +76,9 @@ cases =
     ∷ nearest free charging 5 (Some 3)
     ∷ nearest sides sides 6 (Some 4)
     ∷ lists free charging (record {
-        rows = row (Some 2) 2 ∷ row (Some 9) 4 ∷ row (Some 10) 1 ∷ row None 2 ∷ [];
-        report = record { handed = 3; stretches = 9; place = 17 };
-      })
+      rows = row (Some 2) 2 ∷ row (Some 9) 4 ∷ row (Some 10) 1 ∷ row None 2 ∷ [];
+      report = record { handed = 3; stretches = 9; place = 17 };
+    })
     ∷ goes free charging 1 9
     ∷ walks free charging 9 (record { bay = Some 9; place = 10; stretches = 1 })
     ∷ refuses free charging 10 9 10

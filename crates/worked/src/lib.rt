@@ -5,5 +5,4 @@ ghost use Rattle.worked.specs.Cases.{Right, cases};
 /// Every case comes out as worked by hand. There is nothing to run: the contract is the theorem.
 pub fn worked_cases()
     ensures { λ _. ⌜ Each Right cases ⌝ }
-{
-}
+{}

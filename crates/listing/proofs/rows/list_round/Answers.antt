@@ -17,11 +17,11 @@ returns g c =
     let whole = rw (c .in-Continue-rows .was tt) at (c .take-rows-rows .ensures) in
     let fuel : suc (suc (end f k)) - 1 ≡ suc (end f k) = omega arith in
     let is : _≡_ {A = Whole} (record { rows = vec-items (c .in-Continue-rows .field-0); report = c .close-report .result }) (wholeRound f k) =
-        (λ i. record { rows = vec-items (c .in-Continue-rows .field-0); report = c .close-report .ensures i })
-        ∙ sym whole
-        ∙ (λ i.
-            let fi = g .F·Walking .meant (new .sets .0 i) in
-            let ki = g .C·Walking .meant (new .sets .1 i) in
-            play fi ki (suc (suc (end fi ki)) - new .state i .place) (new .state i))
-        ∙ ap (λ (m : ℕ). play f k m fresh) fuel in
+    (λ i. record { rows = vec-items (c .in-Continue-rows .field-0); report = c .close-report .ensures i })
+    ∙ sym whole
+    ∙ (λ i.
+    let fi = g .F·Walking .meant (new .sets .0 i) in
+    let ki = g .C·Walking .meant (new .sets .1 i) in
+    play fi ki (suc (suc (end fi ki)) - new .state i .place) (new .state i))
+    ∙ ap (λ (m : ℕ). play f k m fresh) fuel in
     record { rows = is; all = complete f k _ is }

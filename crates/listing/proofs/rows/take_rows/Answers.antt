@@ -24,9 +24,12 @@ loop-rows-again g c =
     let e = sym (ap (λ (t : Taken). t .bay) step) ∙ c .in-Some .is in
     let on = moves-on f k (stateOf here) _ e in
     let place : c .next-taken .last .self .place ≡ nextFrom f k (here .place) .place = ap (λ (s : Report). s .place) state in
-    let items = c .in-Continue-push .ensures tt .items ∙ ap (λ (t : Taken). vec-items (c .loop-rows .rows) ++ t ∷ []) step in
-    (got .sets .0 ∙ inv .0, got .sets .1 ∙ inv .1, omega (arith, on .1),
-     glued-more f k (vec-items (c .loop-rows .rows)) (stateOf here) _ _ (inv .2) e (inv .3) ∙ (λ i. glued (sym items i) (rest f k (sym state i))))
+    let items = c .in-Continue-push .ensures tt .items ∙ ap (λ (t : Taken). vec-items (c .loop-rows .rows) ++ t ∷ []) step in (
+      got .sets .0 ∙ inv .0,
+      got .sets .1 ∙ inv .1,
+      omega (arith, on .1),
+      glued-more f k (vec-items (c .loop-rows .rows)) (stateOf here) _ _ (inv .2) e (inv .3) ∙ (λ i. glued (sym items i) (rest f k (sym state i))),
+    )
 
 pub returns-in-rest : need.returns-in-rest
 unfolding rest

@@ -9,8 +9,8 @@ use Rattle.plain.proofs.asks.PlainWalking.holds.Needs.{then-i-eq0·by·then-i-
 pub returns-then-i-eq0 : need.returns-then-i-eq0
 returns-then-i-eq0 c =
     elim (c .then-i-eq0 .came) [
-      then-i-eq0·by·then-i-eq0 w ↦ sym (is-none _ _ _ (w .if-i-eq0 .taken))
-    | then-i-eq0·by·else-i-eq0·then-i-self w ↦ sym (set-outside _ _ _ _ (w .if-i-self .taken))
+      | then-i-eq0·by·then-i-eq0 w ↦ sym (is-none _ _ _ (w .if-i-eq0 .taken))
+      | then-i-eq0·by·else-i-eq0·then-i-self w ↦ sym (set-outside _ _ _ _ (w .if-i-self .taken))
     ]
 
 pub returns : need.returns

@@ -16,9 +16,11 @@ loop-n-again g c =
     let inv = c .loop-n .inv in
     let got = c .next .ensures in
     let e = sym (c .in-Some .is) ∙ ap (λ t. t .bay) (got .step) ∙ (λ i. nextFrom (f (inv .0 i)) (k (inv .1 i)) (here .place) .bay) in
-    let s = got .state ∙ (λ i. afterNext (f (inv .0 i)) (k (inv .1 i)) (stateOf here)) in
-    (got .sets .0 ∙ inv .0, got .sets .1 ∙ inv .1,
-     going-more (f (r .free)) (k (r .class)) (stateOf r) (c .args .out .now) (c .loop-n .n) (stateOf here) (stateOf (c .next .last .self)) (c .loop-n .out) (c .in-Some .bay) (omega arith) e s (inv .2))
+    let s = got .state ∙ (λ i. afterNext (f (inv .0 i)) (k (inv .1 i)) (stateOf here)) in (
+      got .sets .0 ∙ inv .0,
+      got .sets .1 ∙ inv .1,
+      going-more (f (r .free)) (k (r .class)) (stateOf r) (c .args .out .now) (c .loop-n .n) (stateOf here) (stateOf (c .next .last .self)) (c .loop-n .out) (c .in-Some .bay) (omega arith) e s (inv .2),
+    )
 
 pub returns : need.returns
 returns g c =
@@ -29,19 +31,23 @@ returns g c =
     let here = c .loop-n .self in
     let inv = c .loop-n .inv in
     let over : Done (f (r .free)) (k (r .class)) (stateOf r) (c .args .out .now) (stateOf (c .loop-n-test .self)) out × (c .loop-n-test .self .free ≡ r .free) × (c .loop-n-test .self .class ≡ r .class) =
-        elim (c .loop-n-test .came) [
-          else-loop-n-test w ↦
-            let d = done-full (f (r .free)) (k (r .class)) (stateOf r) (c .args .out .now) (c .loop-n .n) (stateOf here) out (omega (arith, inv .2 .size)) (inv .2) in
-            (subst (λ x. Done (f (r .free)) (k (r .class)) (stateOf r) (c .args .out .now) (stateOf x) out) (sym (w .self-is)) d,
-             ap (λ x. x .free) (w .self-is) ∙ inv .0, ap (λ x. x .class) (w .self-is) ∙ inv .1)
-        | then-loop-n-test·in-rest w ↦
-            let got = w .next .ensures in
-            let e = sym (w .in-rest .is) ∙ ap (λ t. t .bay) (got .step) ∙ (λ i. nextFrom (f (inv .0 i)) (k (inv .1 i)) (here .place) .bay) in
-            let s = got .state ∙ (λ i. afterNext (f (inv .0 i)) (k (inv .1 i)) (stateOf here)) in
-            let d = done-none (f (r .free)) (k (r .class)) (stateOf r) (c .args .out .now) (c .loop-n .n) (stateOf here) (stateOf (w .next .last .self)) out (omega (arith, w .loop-n-test .taken)) e s (inv .2) in
-            (subst (λ x. Done (f (r .free)) (k (r .class)) (stateOf r) (c .args .out .now) (stateOf x) out) (sym (w .self-is)) d,
-             ap (λ x. x .free) (w .self-is) ∙ got .sets .0 ∙ inv .0, ap (λ x. x .class) (w .self-is) ∙ got .sets .1 ∙ inv .1)
-        ] in
+    elim (c .loop-n-test .came) [
+      | else-loop-n-test w ↦
+          let d = done-full (f (r .free)) (k (r .class)) (stateOf r) (c .args .out .now) (c .loop-n .n) (stateOf here) out (omega (arith, inv .2 .size)) (inv .2) in (
+            subst (λ x. Done (f (r .free)) (k (r .class)) (stateOf r) (c .args .out .now) (stateOf x) out) (sym (w .self-is)) d,
+            ap (λ x. x .free) (w .self-is) ∙ inv .0,
+            ap (λ x. x .class) (w .self-is) ∙ inv .1,
+          )
+      | then-loop-n-test·in-rest w ↦
+          let got = w .next .ensures in
+          let e = sym (w .in-rest .is) ∙ ap (λ t. t .bay) (got .step) ∙ (λ i. nextFrom (f (inv .0 i)) (k (inv .1 i)) (here .place) .bay) in
+          let s = got .state ∙ (λ i. afterNext (f (inv .0 i)) (k (inv .1 i)) (stateOf here)) in
+          let d = done-none (f (r .free)) (k (r .class)) (stateOf r) (c .args .out .now) (c .loop-n .n) (stateOf here) (stateOf (w .next .last .self)) out (omega (arith, w .loop-n-test .taken)) e s (inv .2) in (
+            subst (λ x. Done (f (r .free)) (k (r .class)) (stateOf r) (c .args .out .now) (stateOf x) out) (sym (w .self-is)) d,
+            ap (λ x. x .free) (w .self-is) ∙ got .sets .0 ∙ inv .0,
+            ap (λ x. x .class) (w .self-is) ∙ got .sets .1 ∙ inv .1,
+          )
+    ] in
     let d = over .0 in
     record {
       answer = λ i. record { bays = d .counts i; stretches = d .takes i };
