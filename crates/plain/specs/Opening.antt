@@ -2,16 +2,13 @@
 use mathlib.Core.Path.{_≡_}
 use mathlib.Core.Logic.{_⊎_}
 use mathlib.Core.List.{List}
-use mathlib.Core.Bool.{true}
-use Prim.Native.Nat.{ℕ, _≤_, _<_}
+use Prim.Native.Nat.{ℕ, _≤_}
 use denote.Ref.{now}
 use Rattle.faults.specs.Checks.{Verdict, lastCheck, located, firstOf}
-use Rattle.faults.specs.declared.fault.Flaw.{Flaw}
-use Rattle.faults.specs.declared.fault.Flaw.the-variants.{Numbers, Length, Content, BlockSize, Room, Unlawful}
+use Rattle.faults.specs.Numbers.{FaultBy}
 use Rattle.faults.specs.declared.fault.Form as forms
 use Rattle.std.specs.declared.result.Result.the-variants.{Ok, Err}
-use Rattle.bits.specs.Bits.{bitAt}
-use Rattle.bits.specs.Checks.{bitsCheck, Whole, Clear}
+use Rattle.bits.specs.Checks.{bitsCheck, Whole, Clear, Spare}
 use Rattle.plain.specs.declared.index.Plain.{Plain}
 
 -- the numbers are part 0, the bitvector is part 1
@@ -25,19 +22,13 @@ InRange u = (1 ≤ u) × (u ≤ 65535)
 abbrev pub Lawful : ℕ → List ℕ → Type 0
 Lawful u bytes = InRange u × Whole u bytes × Clear u bytes
 
--- which flaw in which part is due; the first that fits
-abbrev pub FlawIs : ℕ → List ℕ → Flaw → ℕ → Type 0
-FlawIs u bytes Numbers part = (part ≡ 0) × (InRange u → ⊥)
-FlawIs u bytes Length part = (part ≡ 1) × InRange u × (Whole u bytes → ⊥)
-FlawIs u bytes Content part = (part ≡ 1) × InRange u × Whole u bytes × ((i : ℕ) × ((u < i) × (bitAt bytes i ≡ true)))
-FlawIs u bytes BlockSize part = ⊥
-FlawIs u bytes Room part = ⊥
-FlawIs u bytes Unlawful part = ⊥
-
--- what is accepted is lawful, and what is refused is not, for the flaw that is named
+-- what is accepted is lawful; what is refused is not, for the first reason that fits
 abbrev pub OpeningIs : ℕ → List ℕ → Verdict → Type 0
 OpeningIs u bytes (Ok _) = Lawful u bytes
-OpeningIs u bytes (Err e) = (e .form ≡ forms.the-variants.Plain) × FlawIs u bytes (e .flaw) (e .part)
+OpeningIs u bytes (Err e) =
+    FaultBy 1 forms.the-variants.Plain 0 e (InRange u → ⊥)
+    ⊎ (FaultBy 2 forms.the-variants.Plain 1 e (InRange u × (Whole u bytes → ⊥))
+    ⊎ FaultBy 3 forms.the-variants.Plain 1 e (InRange u × Whole u bytes × Spare u bytes))
 
 -- the new index, whole, or after a refusal the old one
 abbrev pub Opened : Verdict → Plain → Plain → ℕ → List ℕ → Type 0

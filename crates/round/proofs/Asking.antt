@@ -1,27 +1,30 @@
 -- The laws of count, nearest and pick.
 use mathlib.Core.Path.{_≡_, refl, sym, ap, subst, _∙_}
 use mathlib.Core.Logic.{_⊎_, inl, inr, ⊎-elim}
-use mathlib.Core.List.{List}
+use mathlib.Core.List.{List, [], _∷_}
 use mathlib.Core.Bool.{Bool, true, false, cond, _&&_}
 use Prim.Native.Nat.{ℕ, zero, suc, _+_, _-_, _≤_, _<_}
 use native.Mathlib.Omega.{arith}
 use lib.Dec.{leb}
-use lib.ListN.{length}
+use lib.ListN.{length, getD}
 use Rattle.faults.specs.declared.fault.Refusal.{Refusal}
 use Rattle.faults.specs.declared.fault.Refusal.the-variants.{TooFew}
 use Rattle.std.specs.declared.option.Option.{Option}
 use Rattle.std.specs.declared.option.Option.the-variants.{Some, None}
 use Rattle.std.specs.declared.result.Result.{Result}
 use Rattle.std.specs.declared.result.Result.the-variants.{Ok, Err}
-use Rattle.std.proofs.shelf.Tests.{cond-true, cond-false, cond-both, cases-bool, cases-lt, and-from, and-left, and-right, both-ways, le-leb, lt-leb, leb-true, leb-false}
+use Rattle.std.proofs.shelf.Tests.{cond-true, cond-false, cond-both, cases-bool, cases-lt, and-parts, and-from, and-left, and-right, both-ways, le-leb, lt-leb, leb-true, leb-false}
+use Rattle.sets.specs.Lists.{Rising, ListOf}
 use Rattle.sets.specs.Search.{countTo}
 use Rattle.sets.specs.Sets.{is, isMember, nextOf, previousOf, rankOf, selectOf}
 use Rattle.sets.specs.Laws.{NextIs, PreviousIs, SelectIs}
 use Rattle.sets.specs.declared.Sort.the-variants.{Members}
 use Rattle.sets.proofs.Lawful.{next-smallest, previous-largest, select-ranks}
 use Rattle.sets.proofs.Only.{rank-mono, rank-less}
+use Rattle.sets.proofs.Ranks.{counted}
 use Rattle.sets.proofs.Tests.{count-none, count-here, count-on}
-use Rattle.round.specs.Answers.{distance, NearestIs, PickAnswers}
+use Rattle.round.specs.Answers.{Nearest, NearestIs, Sign, SignIs, PickIs}
+use Rattle.round.specs.Posts.{posts}
 use Rattle.round.specs.Calls.{membersIn, countIn, nearer, nearestTo, nearestAt, upTo, picked, pickFrom}
 
 -- ---- count
@@ -60,11 +63,27 @@ pub counted-ok : (f : List Bool) (w a b n : ℕ) → 1 ≤ a → a ≤ b → b �
 counted-ok f w a b n l h t e =
     ap Ok e ∙ sym (cond-true (leb 1 a && leb a b) _ _ (and-from _ _ (le-leb 1 a l) (le-leb a b h)) ∙ cond-true (leb b w) _ _ (le-leb b w t))
 
+-- a list of the members from a to b
+pub members-listed : (f : List Bool) (a b n : ℕ) → n ≡ membersIn f a b → (bays : List ℕ) × (ListOf (λ j. (a ≤ j) × (j ≤ b) × (isMember f j ≡ true)) bays × (length bays ≡ n))
+unfolding membersIn is
+members-listed f a b n e =
+    let all = counted (from f a) (and-right (leb a 0) (isMember f 0) refl) b in (
+      all .0,
+      (
+        record {
+          rising = all .1 .0 .rising;
+          all = λ j h. all .1 .0 .all j (h .1, and-from _ _ (le-leb a j (h .0)) (h .2));
+          only = λ j m. let h = all .1 .0 .only j m in let parts' = and-parts _ _ (h .1) in (leb-true a j (parts' .0), h .0, parts' .1);
+        },
+        all .1 .1 ∙ sym e,
+      ),
+    )
+
 -- ---- nearest
 
 module _ (f : List Bool) (w p : ℕ) (in-round : p ≤ w) where
   abbrev Near : Option ℕ → Type 0
-  Near r = NearestIs f w p r
+  Near r = Nearest f w p r
 
   -- where a is the last member up to p, each is at or before a, or at or after p
   low : (a j : ℕ) → PreviousIs f Members p (Some a) → isMember f j ≡ true → (j ≤ a) ⊎ (p < j)
@@ -120,11 +139,24 @@ module _ (f : List Bool) (w p : ℕ) (in-round : p ≤ w) where
       (λ t. of-two a b (leb-true b w t) lb la)
       (λ t. let past : w < b = leb-false b w t in only-below a lb (λ j l h. la .2 j (omega arith) (omega arith)))
 
-pub nearest-is : (f : List Bool) (w p : ℕ) → p ≤ w → NearestIs f w p (nearestTo f w p)
+pub nearest-is : (f : List Bool) (w p : ℕ) → p ≤ w → Nearest f w p (nearestTo f w p)
 nearest-is f w p l = nearer-is f w p l (previousOf f Members p) (nextOf f Members p) (previous-largest f Members p) (next-smallest f Members p)
 
 pub nearest-ok : (f : List Bool) (w p : ℕ) (r : Option ℕ) → 1 ≤ p → p ≤ w → r ≡ nearestTo f w p → Ok r ≡ nearestAt f w p
 nearest-ok f w p r l h e = ap Ok e ∙ sym (cond-true (leb 1 p) _ _ (le-leb 1 p l) ∙ cond-true (leb p w) _ _ (le-leb p w h))
+
+-- ---- sign
+
+rising-at : (p : ℕ) (xs : List ℕ) (i : ℕ) → Rising p xs → i < length xs → p ≤ getD xs i 0
+rising-at p [] i r l = absurd (omega arith)
+rising-at p (x ∷ xs) zero r l = r .0
+rising-at p (x ∷ xs) (suc i) r l = omega (arith, r .0, rising-at (suc x) xs i (r .1) (omega arith))
+
+-- a post is a bay, so that nearest at a post is refused only beyond the end
+pub sign-is : (f : List Bool) (w s p : ℕ) (r : Result (Option ℕ) Refusal) → Rising 1 posts → Sign s → p ≡ getD posts (s - 1) 0 → NearestIs f w p r → SignIs f w s r
+sign-is f w s p (Ok r) rise sign e near = (sign, omega (arith, near .1), subst (λ (x : ℕ). Nearest f w x r) e (near .2))
+sign-is f w s p (Err x) rise sign e (inl h) = absurd (omega (arith, rising-at 1 posts (s - 1) rise (omega (arith, sign .0, sign .1)), h .1))
+sign-is f w s p (Err x) rise sign e (inr h) = inr (h .0, (sign, omega (arith, h .1)))
 
 -- ---- pick
 
@@ -132,12 +164,12 @@ module _ (f : List Bool) (w k : ℕ) (some : 1 ≤ k) (within : w ≤ length f) 
   -- what is picked of a bay that select gave
   record Picks (r : Option ℕ) : Type 0 where
     pub answer : picked (upTo w r) ≡ cond (leb k (rankOf f Members w)) (picked r) (Err TooFew)
-    pub law : PickAnswers f w k (picked (upTo w r))
+    pub law : PickIs f w k (picked (upTo w r))
 
   too-few : (r : Option ℕ) → upTo w r ≡ None → rankOf f Members w < k → Picks r
   too-few r e l = record {
     answer = ap picked e ∙ sym (cond-false (leb k (rankOf f Members w)) (picked r) (Err TooFew) (lt-leb k (rankOf f Members w) l));
-    law = rw e l;
+    law = rw e (inr (refl, (some, l)));
   }
 
   pick-is : (r : Option ℕ) → SelectIs f Members k r → Picks r
@@ -158,12 +190,12 @@ module _ (f : List Bool) (w k : ℕ) (some : 1 ≤ k) (within : w ≤ length f) 
   -- what select gave, picked
   pub record Picked (r : Result ℕ Refusal) : Type 0 where
     pub answer : r ≡ pickFrom f w k
-    pub law : PickAnswers f w k r
+    pub law : PickIs f w k r
 
   pub picks : (r : Result ℕ Refusal) → r ≡ picked (upTo w (selectOf f Members k)) → Picked r
   picks r e =
       let p = pick-is (selectOf f Members k) (select-ranks f Members k) in
       record {
         answer = e ∙ p .answer ∙ sym (cond-true (leb 1 k) _ _ (le-leb 1 k some));
-        law = subst (PickAnswers f w k) (sym e) (p .law);
+        law = subst (PickIs f w k) (sym e) (p .law);
       }

@@ -1,6 +1,6 @@
 -- One step of the walk, and that each stretch takes a bay or more.
 use mathlib.Core.Path.{_≡_, refl, sym, ap, subst, _∙_}
-use mathlib.Core.Logic.{⊎-elim}
+use mathlib.Core.Logic.{_⊎_, inl, inr, ⊎-elim}
 use mathlib.Core.List.{List}
 use mathlib.Core.Bool.{Bool, true, false, cond, _&&_}
 use Prim.Native.Nat.{ℕ, zero, suc, _+_, _-_, _≤_, _<_, min, max}
@@ -47,6 +47,18 @@ module _ (f c : List Bool) where
   pub larger-end : (p : ℕ) → larger f c p ≤ suc (end f c)
   unfolding larger
   larger-end p = omega (arith, stop-end (end f c) (nextOf f Members p), stop-end (end f c) (nextOf c Members p))
+
+  -- the two next members taken apart
+  pub larger-some : (p a b : ℕ) → nextOf f Members p ≡ Some a → nextOf c Members p ≡ Some b → min (max a b) (suc (end f c)) ≡ larger f c p
+  unfolding larger
+  larger-some p a b ef ec =
+      let apart : min (max a b) (suc (end f c)) ≡ max (min a (suc (end f c))) (min b (suc (end f c))) = omega arith in
+      apart ∙ (λ i. max (stop (end f c) (sym ef i)) (stop (end f c) (sym ec i)))
+
+  pub larger-none : (p : ℕ) → (nextOf f Members p ≡ None) ⊎ (nextOf c Members p ≡ None) → suc (end f c) ≡ larger f c p
+  unfolding larger
+  larger-none p (inl e) = omega (arith, ap (stop (end f c)) e, stop-end (end f c) (nextOf c Members p))
+  larger-none p (inr e) = omega (arith, ap (stop (end f c)) e, stop-end (end f c) (nextOf f Members p))
 
   pub larger-here : (p : ℕ) → p ≤ end f c → common f c p ≡ true → larger f c p ≡ p
   unfolding common larger

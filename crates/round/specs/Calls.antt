@@ -3,7 +3,7 @@ use mathlib.Core.List.{List}
 use mathlib.Core.Bool.{Bool, cond, _&&_}
 use Prim.Native.Nat.{ℕ, suc, _-_}
 use lib.Dec.{leb}
-use lib.ListN.{getD}
+use lib.ListN.{length, getD}
 use Rattle.faults.specs.declared.fault.Refusal.{Refusal}
 use Rattle.faults.specs.declared.fault.Refusal.the-variants.{NoBay, NoSign, Beyond, Behind, TooFew}
 use Rattle.std.specs.declared.option.Option.{Option}
@@ -45,7 +45,7 @@ nearestAt f w p = cond (leb 1 p) (cond (leb p w) (Ok (nearestTo f w p)) (Err Bey
 
 -- the post of sign s
 abbrev pub postOf : ℕ → Result ℕ Refusal
-postOf s = cond (leb 1 s && leb s 16) (Ok (getD posts (s - 1) 0)) (Err NoSign)
+postOf s = cond (leb 1 s && leb s (length posts)) (Ok (getD posts (s - 1) 0)) (Err NoSign)
 
 abbrev pub nearestPost : List Bool → ℕ → Result ℕ Refusal → Result (Option ℕ) Refusal
 nearestPost f w (Ok p) = nearestAt f w p

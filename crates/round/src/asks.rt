@@ -1,6 +1,6 @@
 // The calls that ask and leave the round as it is.
 ghost use mathlib.Core.Path.{_≡_};
-ghost use Rattle.round.specs.Answers.{NearestAnswers, PickAnswers};
+ghost use Rattle.round.specs.Answers.{CountIs, NearestIs, PickIs, SignIs};
 ghost use Rattle.round.specs.Calls.{countIn, nearestAt, nearer, pickFrom, signAt, upTo};
 ghost use Rattle.round.specs.Machine.{end};
 use super::posts::post_of;
@@ -35,7 +35,8 @@ fn nearer_of(p: u32, below: Option<u32>, above: Option<u32>) -> Option<u32>
 impl<F: Counting, C: Walking> Round<F, C> {
     /// How many members of the free set lie from `a` to `b`.
     pub fn count(&self, a: u32, b: u32) -> Result<u32, Refusal>
-        ensures { λ r. let f = F·Walking .meant (now (self .entry) .free) in let c = C·Walking .meant (now (self .entry) .class) in ⌜ r ≡ countIn f (end f c) a b ⌝ }
+        ensures answer { λ r. let f = F·Walking .meant (now (self .entry) .free) in let c = C·Walking .meant (now (self .entry) .class) in ⌜ r ≡ countIn f (end f c) a b ⌝ }
+        ensures law { λ r. let f = F·Walking .meant (now (self .entry) .free) in let c = C·Walking .meant (now (self .entry) .class) in ⌜ CountIs f (end f c) a b r ⌝ }
     {
         if a == 0 || a > b {
             return Err(Refusal::NoBay);
@@ -50,7 +51,7 @@ impl<F: Counting, C: Walking> Round<F, C> {
     /// The member of the free set nearest to bay `p`, up to the round's last bay; at equal distance the lower one.
     pub fn nearest(&self, p: u32) -> Result<Option<u32>, Refusal>
         ensures answer { λ r. let f = F·Walking .meant (now (self .entry) .free) in let c = C·Walking .meant (now (self .entry) .class) in ⌜ r ≡ nearestAt f (end f c) p ⌝ }
-        ensures law { λ r. let f = F·Walking .meant (now (self .entry) .free) in let c = C·Walking .meant (now (self .entry) .class) in ⌜ NearestAnswers f (end f c) p r ⌝ }
+        ensures law { λ r. let f = F·Walking .meant (now (self .entry) .free) in let c = C·Walking .meant (now (self .entry) .class) in ⌜ NearestIs f (end f c) p r ⌝ }
     {
         if p == 0 {
             return Err(Refusal::NoBay);
@@ -66,7 +67,8 @@ impl<F: Counting, C: Walking> Round<F, C> {
 
     /// The member of the free set nearest to the post of a sign.
     pub fn sign(&self, sign: u32) -> Result<Option<u32>, Refusal>
-        ensures { λ r. let f = F·Walking .meant (now (self .entry) .free) in let c = C·Walking .meant (now (self .entry) .class) in ⌜ r ≡ signAt f (end f c) sign ⌝ }
+        ensures answer { λ r. let f = F·Walking .meant (now (self .entry) .free) in let c = C·Walking .meant (now (self .entry) .class) in ⌜ r ≡ signAt f (end f c) sign ⌝ }
+        ensures law { λ r. let f = F·Walking .meant (now (self .entry) .free) in let c = C·Walking .meant (now (self .entry) .class) in ⌜ SignIs f (end f c) sign r ⌝ }
     {
         let post = post_of(sign)?;
         self.nearest(post)
@@ -75,7 +77,7 @@ impl<F: Counting, C: Walking> Round<F, C> {
     /// The `k`-th member of the free set, up to the round's last bay.
     pub fn pick(&self, k: u32) -> Result<u32, Refusal>
         ensures answer { λ r. let f = F·Walking .meant (now (self .entry) .free) in let c = C·Walking .meant (now (self .entry) .class) in ⌜ r ≡ pickFrom f (end f c) k ⌝ }
-        ensures law { λ r. let f = F·Walking .meant (now (self .entry) .free) in let c = C·Walking .meant (now (self .entry) .class) in ⌜ PickAnswers f (end f c) k r ⌝ }
+        ensures law { λ r. let f = F·Walking .meant (now (self .entry) .free) in let c = C·Walking .meant (now (self .entry) .class) in ⌜ PickIs f (end f c) k r ⌝ }
     {
         if k == 0 {
             return Err(Refusal::NoBay);

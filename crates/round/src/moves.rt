@@ -2,6 +2,7 @@
 ghost use mathlib.Core.Path.{_≡_};
 ghost use Prim.Native.Nat.{suc, _+_, _≤_};
 ghost use lib.ListN.{length, take};
+ghost use Rattle.round.specs.Answers.{GoIs};
 ghost use Rattle.round.specs.Calls.{goTo};
 ghost use Rattle.round.specs.Handed.{HandedIs, SheetIs};
 ghost use Rattle.round.specs.Machine.{end, nextFrom};
@@ -38,11 +39,11 @@ impl<F: Counting, C: Walking> Round<F, C> {
     /// Takes stretches until one is a common bay, or the round is at its end.
     pub fn next(&mut self) -> Taken
         ensures step { λ r. let f = F·Walking .meant (now (self .entry) .free) in let c = C·Walking .meant (now (self .entry) .class) in let w = nextFrom f c (now (self .entry) .place) in ⌜ r ≡ record { bay = w .bay; stretches = w .stretches } ⌝ }
-        ensures first { λ r. ⌜ HandedIs (F·Walking .meant (now (self .entry) .free)) (C·Walking .meant (now (self .entry) .class)) (now (self .entry) .place) (r .bay) (now (self .exit) .place) ⌝ }
-        ensures fewest { λ r. ⌜ Fewest (F·Walking .meant (now (self .entry) .free)) (C·Walking .meant (now (self .entry) .class)) (Between (now (self .entry) .place) (now (self .exit) .place)) (r .stretches) ⌝ }
+        ensures first { λ r. let f = F·Walking .meant (now (self .entry) .free) in let c = C·Walking .meant (now (self .entry) .class) in ⌜ HandedIs f c (now (self .entry) .place) (r .bay) (now (self .exit) .place) ⌝ }
+        ensures fewest { λ r. let f = F·Walking .meant (now (self .entry) .free) in let c = C·Walking .meant (now (self .entry) .class) in ⌜ Fewest f c (Between (now (self .entry) .place) (now (self .exit) .place)) (r .stretches) ⌝ }
         ensures forward { λ r. ⌜ (r .stretches + now (self .entry) .place ≤ now (self .exit) .place) × (handedBy (r .bay) ≤ r .stretches) ⌝ }
-        ensures within { λ _. let w = end (F·Walking .meant (now (self .entry) .free)) (C·Walking .meant (now (self .entry) .class)) in ⌜ (now (self .entry) .place ≤ suc w → now (self .exit) .place ≤ suc w) ⌝ }
-        ensures state { λ _. ⌜ stateOf (now (self .exit)) ≡ afterNext (F·Walking .meant (now (self .entry) .free)) (C·Walking .meant (now (self .entry) .class)) (stateOf (now (self .entry))) ⌝ }
+        ensures within { λ _. let f = F·Walking .meant (now (self .entry) .free) in let c = C·Walking .meant (now (self .entry) .class) in let w = end f c in ⌜ (now (self .entry) .place ≤ suc w → now (self .exit) .place ≤ suc w) ⌝ }
+        ensures state { λ _. let f = F·Walking .meant (now (self .entry) .free) in let c = C·Walking .meant (now (self .entry) .class) in ⌜ stateOf (now (self .exit)) ≡ afterNext f c (stateOf (now (self .entry))) ⌝ }
         ensures sets { λ _. ⌜ (now (self .exit) .free ≡ now (self .entry) .free) × (now (self .exit) .class ≡ now (self .entry) .class) ⌝ }
     {
         let walked = walk_from(&self.free, &self.class, self.place);
@@ -59,11 +60,11 @@ impl<F: Counting, C: Walking> Round<F, C> {
 
     /// Writes bays as `next` gives them, from the front of `out` on, until it is full or no bay is left.
     pub fn sheet(&mut self, out: &mut [u32]) -> Written
-        ensures answer { λ r. let p = sheetFrom (F·Walking .meant (now (self .entry) .free)) (C·Walking .meant (now (self .entry) .class)) (length (now (out .entry))) (now (self .entry) .place) in ⌜ r ≡ record { bays = length (p .bays); stretches = p .stretches } ⌝ }
-        ensures writes { λ _. let p = sheetFrom (F·Walking .meant (now (self .entry) .free)) (C·Walking .meant (now (self .entry) .class)) (length (now (out .entry))) (now (self .entry) .place) in ⌜ now (out .exit) ≡ over (p .bays) (now (out .entry)) ⌝ }
-        ensures first { λ r. ⌜ SheetIs (F·Walking .meant (now (self .entry) .free)) (C·Walking .meant (now (self .entry) .class)) (now (self .entry) .place) (length (now (out .entry))) (take (r .bays) (now (out .exit))) (now (self .exit) .place) ⌝ }
-        ensures fewest { λ r. ⌜ Fewest (F·Walking .meant (now (self .entry) .free)) (C·Walking .meant (now (self .entry) .class)) (Between (now (self .entry) .place) (now (self .exit) .place)) (r .stretches) ⌝ }
-        ensures state { λ _. ⌜ stateOf (now (self .exit)) ≡ afterSheet (stateOf (now (self .entry))) (sheetFrom (F·Walking .meant (now (self .entry) .free)) (C·Walking .meant (now (self .entry) .class)) (length (now (out .entry))) (now (self .entry) .place)) ⌝ }
+        ensures answer { λ r. let f = F·Walking .meant (now (self .entry) .free) in let c = C·Walking .meant (now (self .entry) .class) in let p = sheetFrom f c (length (now (out .entry))) (now (self .entry) .place) in ⌜ r ≡ record { bays = length (p .bays); stretches = p .stretches } ⌝ }
+        ensures writes { λ _. let f = F·Walking .meant (now (self .entry) .free) in let c = C·Walking .meant (now (self .entry) .class) in let p = sheetFrom f c (length (now (out .entry))) (now (self .entry) .place) in ⌜ now (out .exit) ≡ over (p .bays) (now (out .entry)) ⌝ }
+        ensures first { λ r. let f = F·Walking .meant (now (self .entry) .free) in let c = C·Walking .meant (now (self .entry) .class) in ⌜ SheetIs f c (now (self .entry) .place) (length (now (out .entry))) (take (r .bays) (now (out .exit))) (now (self .exit) .place) ⌝ }
+        ensures fewest { λ r. let f = F·Walking .meant (now (self .entry) .free) in let c = C·Walking .meant (now (self .entry) .class) in ⌜ Fewest f c (Between (now (self .entry) .place) (now (self .exit) .place)) (r .stretches) ⌝ }
+        ensures state { λ _. let f = F·Walking .meant (now (self .entry) .free) in let c = C·Walking .meant (now (self .entry) .class) in ⌜ stateOf (now (self .exit)) ≡ afterSheet (stateOf (now (self .entry))) (sheetFrom f c (length (now (out .entry))) (now (self .entry) .place)) ⌝ }
         ensures sets { λ _. ⌜ (now (self .exit) .free ≡ now (self .entry) .free) × (now (self .exit) .class ≡ now (self .entry) .class) ⌝ }
     {
         let handed = self.handed;
@@ -82,7 +83,8 @@ impl<F: Counting, C: Walking> Round<F, C> {
 
     /// Goes on to the place `q`, without passing the bays between.
     pub fn go(&mut self, q: u32) -> Result<(), Refusal>
-        ensures answer { λ r. ⌜ r ≡ goTo (end (F·Walking .meant (now (self .entry) .free)) (C·Walking .meant (now (self .entry) .class))) (now (self .entry) .place) q ⌝ }
+        ensures answer { λ r. let f = F·Walking .meant (now (self .entry) .free) in let c = C·Walking .meant (now (self .entry) .class) in ⌜ r ≡ goTo (end f c) (now (self .entry) .place) q ⌝ }
+        ensures law { λ r. let f = F·Walking .meant (now (self .entry) .free) in let c = C·Walking .meant (now (self .entry) .class) in ⌜ GoIs (end f c) (now (self .entry) .place) q r ⌝ }
         ensures state { λ r. ⌜ stateOf (now (self .exit)) ≡ afterGo r (stateOf (now (self .entry))) q ⌝ }
         ensures refused { λ r. ⌜ elim r [ Ok _ ↦ Unit {0} | Err _ ↦ now (self .exit) ≡ now (self .entry) ] ⌝ }
         ensures sets { λ _. ⌜ (now (self .exit) .free ≡ now (self .entry) .free) × (now (self .exit) .class ≡ now (self .entry) .class) ⌝ }

@@ -1,5 +1,6 @@
 // The posts of the sixteen signs.
 ghost use mathlib.Core.Path.{_≡_};
+ghost use Rattle.round.specs.Answers.{PostIs};
 ghost use Rattle.round.specs.Calls.{postOf};
 ghost use Rattle.sets.specs.Lists.{Rising};
 use faults::Refusal;
@@ -30,7 +31,8 @@ pub fn posts_rise()
 
 // The post of a sign.
 pub(crate) fn post_of(sign: u32) -> Result<u32, Refusal>
-    ensures { λ r. ⌜ r ≡ postOf sign ⌝ }
+    ensures answer { λ r. ⌜ r ≡ postOf sign ⌝ }
+    ensures law { λ r. ⌜ PostIs sign r ⌝ }
 {
     match sign {
         1..=16 => Ok(POSTS[sign as usize - 1]),

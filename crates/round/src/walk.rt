@@ -2,7 +2,7 @@
 ghost use mathlib.Core.Path.{_≡_};
 ghost use Prim.Native.Nat.{suc, max, _+_, _≤_};
 ghost use Rattle.round.specs.Handed.{HandedIs};
-ghost use Rattle.round.specs.Machine.{end, stop, larger, nextFrom};
+ghost use Rattle.round.specs.Machine.{end, larger, nextFrom};
 ghost use Rattle.round.specs.States.{handedBy};
 ghost use Rattle.round.specs.Stretches.{Between, Fewest};
 use sets::Sort;
@@ -23,25 +23,18 @@ pub(crate) fn end_of<F: Walking, C: Walking>(free: &F, class: &C) -> u32
     free.last().min(class.last())
 }
 
-// A bay that a set was asked for, as a place in a round that ends at `w`.
-fn stop_at(w: u32, bay: Option<u32>) -> u32
-    requires { ⌜ w ≤ 65535 ⌝ }
-    ensures { λ r. ⌜ r ≡ stop w bay ⌝ }
-{
-    match bay {
-        Some(q) => q.min(w + 1),
-        None => w + 1,
-    }
-}
-
-// The larger of the next members of the two sets at `p`, as places in a round that ends at `w`.
+// Where the stretch from `p` ends in a round that ends at `w`: the larger of the next members, none being read as w + 1.
 fn stretch_end<F: Walking, C: Walking>(free: &F, class: &C, w: u32, p: u32) -> u32
     requires { ⌜ w ≡ end (F·Walking .meant (now free)) (C·Walking .meant (now class)) ⌝ }
     ensures { λ r. ⌜ r ≡ larger (F·Walking .meant (now (free .entry))) (C·Walking .meant (now (class .entry))) p ⌝ }
 {
-    let in_free = stop_at(w, free.next(Sort::Members, p));
-    let in_class = stop_at(w, class.next(Sort::Members, p));
-    in_free.max(in_class)
+    let Some(in_free) = free.next(Sort::Members, p) else {
+        return w + 1;
+    };
+    let Some(in_class) = class.next(Sort::Members, p) else {
+        return w + 1;
+    };
+    in_free.max(in_class).min(w + 1)
 }
 
 // Takes stretches from a place on, until one is a common bay or the round is at its end.

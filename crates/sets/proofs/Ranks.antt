@@ -33,7 +33,7 @@ among-fewer (x ∷ xs) q j (inl e) = inl (inl e)
 among-fewer (x ∷ xs) q j (inr m) = ⊎-elim (λ a. inl (inr a)) (λ b. inr b) (among-fewer xs q j m)
 
 module _ (f : ℕ → Bool) where
-  abbrev Counted : ℕ → List ℕ → Type 0
+  abbrev pub Counted : ℕ → List ℕ → Type 0
   Counted n bays = ListOf (λ j. (j ≤ n) × (f j ≡ true)) bays
 
   counted-on : (n : ℕ) (bays : List ℕ) → f (suc n) ≡ false → Counted n bays → Counted (suc n) bays
@@ -51,7 +51,7 @@ module _ (f : ℕ → Bool) where
   }
 
   -- where 0 does not pass
-  counted : f 0 ≡ false → (n : ℕ) → (bays : List ℕ) × (Counted n bays × (length bays ≡ countTo f n))
+  pub counted : f 0 ≡ false → (n : ℕ) → (bays : List ℕ) × (Counted n bays × (length bays ≡ countTo f n))
   counted z zero =
       ([], (record { rising = tt; all = λ j h. let same : j ≡ 0 = omega (arith, h .0) in absurd (both-ways _ z (ap f (sym same) ∙ h .1)); only = λ j m. absurd m }, sym (count-none f)))
   counted z (suc n) =

@@ -1,5 +1,5 @@
-use mathlib.Core.Path.{_≡_, sym, subst}
-use mathlib.Core.Logic.{⊎-elim}
+use mathlib.Core.Path.{_≡_, refl, sym, subst}
+use mathlib.Core.Logic.{inr, ⊎-elim}
 use mathlib.Core.Bool.{true}
 use Prim.Native.Nat.{ℕ, suc, _+_, _-_, _*_, _/_}
 use native.Mathlib.Numerals.{add-one}
@@ -22,7 +22,7 @@ returns-in-Some c =
     let whole : eqb (length bs) ((n + 7) / 8) ≡ true = eq-eqb _ _ (c .if-bytes-n .left) in
     let e : firstFrom (bitAt bs) (suc n) (suc (8 * length bs) - suc n) ≡ Some (c .in-Some .field-0) = sym (simp add-one at (c .in-Some .ensures tt)) in
     let law = subst (λ (r : Option ℕ). FirstIs (bitAt bs) (suc n) (suc (8 * length bs) - suc n) r) e (first-law (bitAt bs) (suc n) _) in
-    record { answer = rw (whole, e); law = (c .if-bytes-n .left, (c .in-Some .field-0, (law .0, law .2))) }
+    record { answer = rw (whole, e); law = inr (refl, (c .if-bytes-n .left, (c .in-Some .field-0, (law .0, law .2)))) }
 
 pub returns-in-None : need.returns-in-None
 returns-in-None c =

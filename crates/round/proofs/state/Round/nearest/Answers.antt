@@ -1,7 +1,7 @@
 use mathlib.Core.Path.{_≡_, sym, subst, _∙_}
 use Prim.Native.Nat.{_≤_}
 use native.Mathlib.Omega.{arith}
-use Rattle.round.specs.Answers.{NearestIs}
+use Rattle.round.specs.Answers.{Nearest}
 use Rattle.round.specs.Calls.{nearer, nearestTo, upTo}
 use Rattle.round.specs.Machine.{end}
 use Rattle.round.proofs.Asking.{nearest-is, nearest-ok}
@@ -18,5 +18,5 @@ returns g c =
     let within : p ≤ w = omega (arith, c .end-of-w .ensures) in
     record {
       answer = nearest-ok f w p _ some within same;
-      law = (some, within, subst (NearestIs f w p) (sym same) (nearest-is f w p within));
+      law = (some, within, subst (Nearest f w p) (sym same) (nearest-is f w p within));
     }
