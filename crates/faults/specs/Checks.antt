@@ -1,5 +1,5 @@
 -- Checks that are made one after the other, of which the first that refuses counts.
-use mathlib.Core.Bool.{Bool, cond, _&&_}
+use mathlib.Core.Bool.{cond}
 use Prim.Native.Nat.{ℕ}
 use lib.Dec.{leb}
 use Rattle.faults.specs.declared.fault.Fault.{Fault}

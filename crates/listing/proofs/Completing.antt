@@ -1,14 +1,13 @@
 -- A whole round hands out all common bays, by the fewest stretches.
-use mathlib.Core.Path.{_≡_, refl, sym, ap, subst, _∙_}
-use mathlib.Core.List.{List, [], _∷_, _++_}
+use mathlib.Core.Path.{_≡_, refl, sym, subst, _∙_}
+use mathlib.Core.List.{List, [], _∷_}
 use mathlib.Core.Bool.{Bool, true}
-use Prim.Native.Nat.{ℕ, zero, suc, _+_, _-_, _≤_, _<_}
+use Prim.Native.Nat.{ℕ, zero, suc, _+_, _-_, _≤_}
 use native.Mathlib.Omega.{arith}
 use lib.ListN.{length}
 use Rattle.std.specs.declared.option.Option.{Option}
 use Rattle.std.specs.declared.option.Option.the-variants.{Some, None}
 use Rattle.std.proofs.shelf.Tests.{and-parts}
-use Rattle.sets.specs.Lists.{ListOf}
 use Rattle.sets.specs.Sets.{isMember}
 use Rattle.sets.specs.declared.Sort.the-variants.{Members}
 use Rattle.sets.proofs.Bays.{is-bay}
@@ -22,7 +21,7 @@ use Rattle.round.proofs.Handing.{next-handed}
 use Rattle.round.proofs.Made.{Made, made-join, made-listed, made-fewest}
 use Rattle.round.proofs.Taking.{bayOf, next-made}
 use Rattle.listing.specs.Listings.{Whole, before, onward, play, wholeRound, baysOf, Complete}
-use Rattle.listing.proofs.Playing.{takes, moves-on, play-step}
+use Rattle.listing.proofs.Playing.{moves-on, play-step}
 
 module _ (f c : List Bool) where
   -- a round that stood at s was walked to its end

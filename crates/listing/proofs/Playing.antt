@@ -55,10 +55,10 @@ module _ (f c : List Bool) where
       let sum : suc (suc (end f c)) - s .place ≡ suc (suc (end f c) - s .place) = omega arith in
       ap (λ x. play f c x s) sum ∙ play-step (suc (end f c) - s .place) s ∙ ap (λ (x : Option ℕ). before (takes s) (onward x (afterNext f c s) (play f c (suc (end f c) - s .place) (afterNext f c s)))) e
 
-  pub rest-none : (s : Report) → s .place ≤ suc (end f c) → nextFrom f c (s .place) .bay ≡ None → rest s ≡ record { rows = takes s ∷ []; report = afterNext f c s }
+  rest-none : (s : Report) → s .place ≤ suc (end f c) → nextFrom f c (s .place) .bay ≡ None → rest s ≡ record { rows = takes s ∷ []; report = afterNext f c s }
   rest-none s top e = rest-step s None top e
 
-  pub rest-some : (s : Report) (q : ℕ) → s .place ≤ suc (end f c) → nextFrom f c (s .place) .bay ≡ Some q → rest s ≡ before (takes s) (rest (afterNext f c s))
+  rest-some : (s : Report) (q : ℕ) → s .place ≤ suc (end f c) → nextFrom f c (s .place) .bay ≡ Some q → rest s ≡ before (takes s) (rest (afterNext f c s))
   unfolding rest
   rest-some s q top e =
       let on = moves-on s q e in

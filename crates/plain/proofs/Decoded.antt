@@ -2,18 +2,17 @@
 use mathlib.Core.Path.{_≡_, refl, sym, ap, _∙_}
 use mathlib.Core.Logic.{⊎-elim}
 use mathlib.Core.List.{List}
-use mathlib.Core.Bool.{Bool, false, not}
-use Prim.Native.Nat.{ℕ, suc, _+_, _-_, _≤_, _<_, min, max}
+use mathlib.Core.Bool.{Bool, false}
+use Prim.Native.Nat.{ℕ, suc, _-_, _≤_, _<_, min, max}
 use native.Mathlib.Omega.{arith}
-use lib.ListN.{length, getD}
-use Rattle.std.specs.declared.option.Option.{Option}
+use lib.ListN.{length}
 use Rattle.std.proofs.shelf.Counted.{getD-map-counting}
 use Rattle.std.proofs.shelf.Tests.{cases-lt}
 use Rattle.sets.specs.declared.Sort.{Sort}
 use Rattle.sets.specs.declared.Sort.the-variants.{Members, Others}
 use Rattle.sets.specs.Search.{firstFrom, lastTo, countTo, kthTo}
-use Rattle.sets.specs.Sets.{is, fits, isMember, nextOf, previousOf, rankOf, selectOf}
-use Rattle.sets.proofs.Bays.{is-inside, is-beyond, is-none}
+use Rattle.sets.specs.Sets.{is, fits, nextOf, previousOf, rankOf, selectOf}
+use Rattle.sets.proofs.Bays.{is-inside, is-beyond}
 use Rattle.sets.proofs.Only.{next-zero, previous-beyond, rank-beyond}
 use Rattle.sets.proofs.Tests.{first-agree, last-agree, count-agree, kth-agree, count-others}
 use Rattle.bits.specs.Bits.{bitAt, matches, isBit, bitFor}
@@ -36,7 +35,7 @@ module _ (u : ℕ) (bytes : List ℕ) where
   pub set-outside : (k : Sort) (i : ℕ) → u < i → is (setOf u bytes) k i ≡ false
   set-outside k i h = is-beyond (setOf u bytes) k i (omega (arith, set-length u bytes))
 
-  pub next-bits : (k : Sort) (i : ℕ) → 1 ≤ i → firstFrom (isBit bytes (bitFor k)) i (suc u - i) ≡ nextOf (setOf u bytes) k i
+  next-bits : (k : Sort) (i : ℕ) → 1 ≤ i → firstFrom (isBit bytes (bitFor k)) i (suc u - i) ≡ nextOf (setOf u bytes) k i
   unfolding nextOf
   next-bits k i h =
       sym (first-agree (is (setOf u bytes) k) (isBit bytes (bitFor k)) i (suc u - i) (λ j l g. set-is k j (omega arith) (omega arith)))

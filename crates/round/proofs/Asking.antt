@@ -1,12 +1,12 @@
 -- The laws of count, nearest and pick.
 use mathlib.Core.Path.{_≡_, refl, sym, ap, subst, _∙_}
 use mathlib.Core.Logic.{_⊎_, inl, inr, ⊎-elim}
-use mathlib.Core.List.{List, [], _∷_}
+use mathlib.Core.List.{List}
 use mathlib.Core.Bool.{Bool, true, false, cond, _&&_}
 use Prim.Native.Nat.{ℕ, zero, suc, _+_, _-_, _≤_, _<_}
 use native.Mathlib.Omega.{arith}
 use lib.Dec.{leb}
-use lib.ListN.{length, getD}
+use lib.ListN.{length}
 use Rattle.faults.specs.declared.fault.Refusal.{Refusal}
 use Rattle.faults.specs.declared.fault.Refusal.the-variants.{TooFew}
 use Rattle.std.specs.declared.option.Option.{Option}
@@ -14,7 +14,7 @@ use Rattle.std.specs.declared.option.Option.the-variants.{Some, None}
 use Rattle.std.specs.declared.result.Result.{Result}
 use Rattle.std.specs.declared.result.Result.the-variants.{Ok, Err}
 use Rattle.std.proofs.shelf.Tests.{cond-true, cond-false, cond-both, cases-bool, cases-lt, and-parts, and-from, and-left, and-right, both-ways, le-leb, lt-leb, leb-true, leb-false}
-use Rattle.sets.specs.Lists.{Rising, ListOf}
+use Rattle.sets.specs.Lists.{ListOf}
 use Rattle.sets.specs.Search.{countTo}
 use Rattle.sets.specs.Sets.{is, isMember, nextOf, previousOf, rankOf, selectOf}
 use Rattle.sets.specs.Laws.{NextIs, PreviousIs, SelectIs}
@@ -23,8 +23,7 @@ use Rattle.sets.proofs.Lawful.{next-smallest, previous-largest, select-ranks}
 use Rattle.sets.proofs.Only.{rank-mono, rank-less}
 use Rattle.sets.proofs.Ranks.{counted}
 use Rattle.sets.proofs.Tests.{count-none, count-here, count-on}
-use Rattle.round.specs.Answers.{Nearest, NearestIs, Sign, SignIs, PickIs}
-use Rattle.round.specs.Posts.{posts}
+use Rattle.round.specs.Answers.{Nearest, PickIs}
 use Rattle.round.specs.Calls.{membersIn, countIn, nearer, nearestTo, nearestAt, upTo, picked, pickFrom}
 
 -- ---- count
@@ -144,19 +143,6 @@ nearest-is f w p l = nearer-is f w p l (previousOf f Members p) (nextOf f Member
 
 pub nearest-ok : (f : List Bool) (w p : ℕ) (r : Option ℕ) → 1 ≤ p → p ≤ w → r ≡ nearestTo f w p → Ok r ≡ nearestAt f w p
 nearest-ok f w p r l h e = ap Ok e ∙ sym (cond-true (leb 1 p) _ _ (le-leb 1 p l) ∙ cond-true (leb p w) _ _ (le-leb p w h))
-
--- ---- sign
-
-rising-at : (p : ℕ) (xs : List ℕ) (i : ℕ) → Rising p xs → i < length xs → p ≤ getD xs i 0
-rising-at p [] i r l = absurd (omega arith)
-rising-at p (x ∷ xs) zero r l = r .0
-rising-at p (x ∷ xs) (suc i) r l = omega (arith, r .0, rising-at (suc x) xs i (r .1) (omega arith))
-
--- a post is a bay, so that nearest at a post is refused only beyond the end
-pub sign-is : (f : List Bool) (w s p : ℕ) (r : Result (Option ℕ) Refusal) → Rising 1 posts → Sign s → p ≡ getD posts (s - 1) 0 → NearestIs f w p r → SignIs f w s r
-sign-is f w s p (Ok r) rise sign e near = (sign, omega (arith, near .1), subst (λ (x : ℕ). Nearest f w x r) e (near .2))
-sign-is f w s p (Err x) rise sign e (inl h) = absurd (omega (arith, rising-at 1 posts (s - 1) rise (omega (arith, sign .0, sign .1)), h .1))
-sign-is f w s p (Err x) rise sign e (inr h) = inr (h .0, (sign, omega (arith, h .1)))
 
 -- ---- pick
 

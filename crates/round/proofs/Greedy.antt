@@ -1,21 +1,20 @@
 -- How far a stretch can reach: the walk's stretches are lawful, and no lawful one that begins before reaches further.
-use mathlib.Core.Path.{_≡_, refl, sym, ap, subst, _∙_}
+use mathlib.Core.Path.{_≡_, sym, ap, _∙_}
 use mathlib.Core.Logic.{_⊎_, inl, inr, ⊎-elim}
-use mathlib.Core.List.{List, [], _∷_}
+use mathlib.Core.List.{List}
 use mathlib.Core.Bool.{Bool, true, false, cond}
-use Prim.Native.Nat.{ℕ, zero, suc, _+_, _-_, _≤_, _<_, max}
+use Prim.Native.Nat.{ℕ, suc, _+_, _-_, _≤_, _<_}
 use native.Mathlib.Omega.{arith}
-use lib.ListN.{length}
 use Rattle.std.specs.declared.option.Option.{Option}
 use Rattle.std.specs.declared.option.Option.the-variants.{Some, None}
-use Rattle.std.proofs.shelf.Tests.{cond-true, cond-false, cond-both, and-parts, cases-bool, cases-lt, both-ways}
-use Rattle.sets.specs.Sets.{is, isMember, nextOf}
+use Rattle.std.proofs.shelf.Tests.{cond-true, cond-false, cond-both, and-parts, cases-lt, both-ways}
+use Rattle.sets.specs.Sets.{isMember, nextOf}
 use Rattle.sets.specs.Laws.{NextIs}
 use Rattle.sets.specs.declared.Sort.the-variants.{Members}
 use Rattle.sets.proofs.Lawful.{next-smallest}
 use Rattle.round.specs.Machine.{end, stop, common, larger}
 use Rattle.round.specs.Stretches.{Without, Lawful}
-use Rattle.round.proofs.Walks.{larger-past, larger-end}
+use Rattle.round.proofs.Walks.{larger-past}
 
 -- up to the next member there is none
 stop-without : (s : List Bool) (p w : ℕ) (r : Option ℕ) → NextIs s Members p r → Without s p (stop w r)
@@ -31,14 +30,6 @@ stop-reach s a p m w (Some q) law l h out =
 module _ (f c : List Bool) where
   pub reach : ℕ → ℕ
   reach p = cond (common f c p) (p + 1) (larger f c p)
-
-  pub reach-past : (p : ℕ) → p ≤ end f c → p < reach p
-  unfolding reach
-  reach-past p l = cond-both (common f c p) (p + 1) (larger f c p) (λ x. p < x) (λ e. omega arith) (λ e. larger-past f c p l e)
-
-  pub reach-end : (p : ℕ) → p ≤ end f c → reach p ≤ suc (end f c)
-  unfolding reach
-  reach-end p l = cond-both (common f c p) (p + 1) (larger f c p) (λ x. x ≤ suc (end f c)) (λ e. omega arith) (λ e. larger-end f c p)
 
   pub larger-lawful : (p : ℕ) → p < larger f c p → Lawful f c p (larger f c p)
   unfolding larger

@@ -1,16 +1,16 @@
 -- A way from one place to another: the common bays that it hands out, and the stretches that it takes. Ways join, and a way takes
 -- the fewest stretches: where its stretches begin are marks, of which no lawful stretch has two.
-use mathlib.Core.Path.{_≡_, refl, sym, ap, subst, _∙_}
+use mathlib.Core.Path.{_≡_, refl, ap, subst, _∙_}
 use mathlib.Core.Logic.{_⊎_, inl, inr, ⊎-elim}
 use mathlib.Core.List.{List, [], _∷_, _++_}
 use mathlib.Core.Bool.{Bool, true, false}
-use Prim.Native.Nat.{ℕ, zero, suc, _+_, _-_, _≤_, _<_}
+use Prim.Native.Nat.{ℕ, suc, _+_, _-_, _≤_, _<_}
 use native.Mathlib.Omega.{arith}
 use lib.ListN.{length, length-append}
-use Rattle.std.proofs.shelf.Tests.{cases-bool, cases-lt, both-ways}
+use Rattle.std.proofs.shelf.Tests.{cases-lt, both-ways}
 use Rattle.round.specs.Machine.{end, common, larger}
 use Rattle.round.proofs.Walks.{larger-past, larger-end}
-use Rattle.round.proofs.Greedy.{reach, reach-past, reach-end, reach-lawful, reach-here, reach-on, longest}
+use Rattle.round.proofs.Greedy.{reach, reach-lawful, reach-here, reach-on, longest}
 use Rattle.round.proofs.Handing.{passes-none}
 use Rattle.sets.specs.Lists.{Each, Among, ListOf}
 use Rattle.round.specs.Stretches.{Row, Between, Has, In, Apart, Lawful, Stretch, Fewest}

@@ -1,8 +1,8 @@
 -- A sheet, one bay at a time.
-use mathlib.Core.Path.{_≡_, refl, sym, ap, subst, _∙_}
-use mathlib.Core.Bool.{Bool, true, false}
+use mathlib.Core.Path.{_≡_, refl, sym, ap, _∙_}
+use mathlib.Core.Bool.{Bool}
 use mathlib.Core.List.{List, [], _∷_, _++_, append-assoc}
-use Prim.Native.Nat.{ℕ, zero, suc, _+_, _-_, _<_, _≤_}
+use Prim.Native.Nat.{ℕ, suc, _+_, _-_, _<_, _≤_}
 use native.Mathlib.Numerals.{add-one}
 use native.Mathlib.Omega.{arith}
 use lib.ListN.{length, set, take, drop, length-set, length-take, take-append-drop}
@@ -10,14 +10,13 @@ use lib.Seq.{drop-drop, take-suc-set}
 use Rattle.std.proofs.shelf.Lists.{drop-set-lt, append-nil}
 use Rattle.std.specs.declared.option.Option.{Option}
 use Rattle.std.specs.declared.option.Option.the-variants.{Some, None}
-use Rattle.round.specs.declared.walk.Walked.{Walked}
 use Rattle.round.specs.declared.state.Report.{Report}
 use Rattle.round.specs.Machine.{nextFrom}
 use Rattle.round.specs.Sheets.{Page, paged, sheetFrom, over}
 use Rattle.round.specs.States.{handedBy, afterNext, afterSheet}
 
 -- bays and stretches before those of a page
-abbrev pub onto : List ℕ → ℕ → Page → Page
+abbrev onto : List ℕ → ℕ → Page → Page
 onto ws t r = record { bays = ws ++ r .bays; place = r .place; stretches = t + r .stretches }
 
 module _ (f c : List Bool) where
@@ -51,19 +50,6 @@ pub record Done (f c : List Bool) (s₀ : Report) (out₀ : List ℕ) (s : Repor
   pub state : s ≡ afterSheet s₀ (sheetFrom f c (length out₀) (s₀ .place))
 
 module _ (f c : List Bool) (s₀ : Report) (out₀ : List ℕ) where
-  pub going-none : Going f c s₀ out₀ 0 s₀ out₀
-  going-none =
-      let k : length out₀ ≡ length out₀ - 0 = omega arith in
-      let page = sheetFrom f c (length out₀ - 0) (s₀ .place) in
-      let sum : page .stretches ≡ s₀ .stretches - s₀ .stretches + page .stretches = omega arith in
-      record {
-        size = refl;
-        wrote = ap (λ (m : ℕ). sheetFrom f c m (s₀ .place)) k ∙ (λ i. record { bays = page .bays; place = page .place; stretches = sum i });
-        kept = refl;
-        many = omega arith;
-        grown = omega arith;
-      }
-
   onto-onto : (ws : List ℕ) (q t u : ℕ) (r : Page) → onto ws t (onto (q ∷ []) u r) ≡ onto (ws ++ (q ∷ [])) (t + u) r
   onto-onto ws q t u r =
       let sum : t + (u + r .stretches) ≡ t + u + r .stretches = omega arith in

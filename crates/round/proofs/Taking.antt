@@ -77,7 +77,7 @@ module _ (f c : List Bool) where
       subst (PageTo p) (sym (sheet-step f c k p)) (page-made p w (sheetFrom f c k (w .place)) (w .bay) a (sheet-made k (w .place) (omega arith)))
 
   -- where a sheet with room for k stops
-  pub record Stops (p k : ℕ) (r : Page) : Type 0 where
+  record Stops (p k : ℕ) (r : Page) : Type 0 where
     pub fits : length (r .bays) ≤ k
     pub full : length (r .bays) ≡ k → r .place ≡ behind p (r .bays)
     pub short : length (r .bays) < k → r .place ≡ max p (suc (end f c))

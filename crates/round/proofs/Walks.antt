@@ -1,18 +1,16 @@
 -- One step of the walk, and that each stretch takes a bay or more.
-use mathlib.Core.Path.{_≡_, refl, sym, ap, subst, _∙_}
+use mathlib.Core.Path.{_≡_, refl, sym, ap, _∙_}
 use mathlib.Core.Logic.{_⊎_, inl, inr, ⊎-elim}
 use mathlib.Core.List.{List}
-use mathlib.Core.Bool.{Bool, true, false, cond, _&&_}
+use mathlib.Core.Bool.{Bool, true, false}
 use Prim.Native.Nat.{ℕ, zero, suc, _+_, _-_, _≤_, _<_, min, max}
 use native.Mathlib.Omega.{arith}
 use lib.Dec.{leb}
-use lib.ListN.{length}
 use Rattle.std.specs.declared.option.Option.{Option}
 use Rattle.std.specs.declared.option.Option.the-variants.{Some, None}
 use Rattle.std.proofs.shelf.Tests.{cond-true, cond-false, and-parts, and-cases, cases-bool, cases-lt, cases-eq, both-ways, le-leb, lt-leb}
 use Rattle.sets.specs.Sets.{is, isMember, nextOf}
 use Rattle.sets.specs.Laws.{NextIs}
-use Rattle.sets.specs.declared.Sort.{Sort}
 use Rattle.sets.specs.declared.Sort.the-variants.{Members}
 use Rattle.sets.proofs.Lawful.{next-smallest}
 use Rattle.sets.proofs.Only.{next-here}
@@ -60,7 +58,7 @@ module _ (f c : List Bool) where
   larger-none p (inl e) = omega (arith, ap (stop (end f c)) e, stop-end (end f c) (nextOf c Members p))
   larger-none p (inr e) = omega (arith, ap (stop (end f c)) e, stop-end (end f c) (nextOf f Members p))
 
-  pub larger-here : (p : ℕ) → p ≤ end f c → common f c p ≡ true → larger f c p ≡ p
+  larger-here : (p : ℕ) → p ≤ end f c → common f c p ≡ true → larger f c p ≡ p
   unfolding common larger
   larger-here p l e =
       let both = and-parts (isMember f p) (isMember c p) e in

@@ -1,9 +1,9 @@
 -- The laws leave one answer, so an implementation may show the law in the place of following the definition.
-use mathlib.Core.Path.{_≡_, refl, sym, ap, _∙_}
-use mathlib.Core.Logic.{_⊎_, inl, inr, ⊎-elim}
+use mathlib.Core.Path.{_≡_, sym, ap, _∙_}
+use mathlib.Core.Logic.{_⊎_, ⊎-elim}
 use mathlib.Core.List.{List}
-use mathlib.Core.Bool.{Bool, true, false}
-use Prim.Native.Nat.{ℕ, suc, _+_, _-_, _≤_, _<_}
+use mathlib.Core.Bool.{Bool, true}
+use Prim.Native.Nat.{ℕ, suc, _-_, _≤_, _<_}
 use native.Mathlib.Omega.{arith}
 use lib.ListN.{length}
 use Rattle.std.specs.declared.option.Option.{Option}
@@ -11,9 +11,11 @@ use Rattle.std.specs.declared.option.Option.the-variants.{Some, None}
 use Rattle.std.proofs.shelf.Tests.{cases-lt}
 use Rattle.sets.specs.declared.Sort.{Sort}
 use Rattle.sets.specs.Sets.{is, nextOf, previousOf, rankOf, selectOf}
-use Rattle.sets.specs.Laws.{NextIs, PreviousIs, SelectIs}
+use Rattle.sets.specs.Laws.{NextIs, PreviousIs, RankIs, SelectIs, Laws-decide}
 use Rattle.sets.proofs.Bays.{is-bay, is-beyond, is-none}
 use Rattle.sets.proofs.Lawful.{next-smallest}
+use Rattle.sets.proofs.Ranks.{rank-counts}
+use Rattle.sets.proofs.Same.{lists-same}
 use Rattle.sets.proofs.Tests.{FirstIs, LastIs, KthIs, first-by, last-by, kth-by, count-beyond, last-law, count-mono, count-less}
 
 module _ (s : List Bool) (k : Sort) where
@@ -21,7 +23,7 @@ module _ (s : List Bool) (k : Sort) where
   next-first i None law = λ j l h. law j l
   next-first i (Some q) law = let bay = is-bay s k q (law .1) in (law .0, omega (arith, bay .1, law .0), law .1, law .2)
 
-  pub next-by : (i : ℕ) (r : Option ℕ) → NextIs s k i r → r ≡ nextOf s k i
+  next-by : (i : ℕ) (r : Option ℕ) → NextIs s k i r → r ≡ nextOf s k i
   unfolding nextOf
   next-by i r law = first-by (is s k) i (suc (length s) - i) r (next-first i r law)
 
@@ -40,7 +42,7 @@ module _ (s : List Bool) (k : Sort) where
   previous-last i None law = λ j l h. law j h
   previous-last i (Some q) law = (is-bay s k q (law .1) .0, law .0, law .1, law .2)
 
-  pub previous-by : (i : ℕ) (r : Option ℕ) → PreviousIs s k i r → r ≡ previousOf s k i
+  previous-by : (i : ℕ) (r : Option ℕ) → PreviousIs s k i r → r ≡ previousOf s k i
   unfolding previousOf
   previous-by i r law = last-by (is s k) i r (previous-last i r law)
 
@@ -49,9 +51,17 @@ module _ (s : List Bool) (k : Sort) where
   select-kth n None law = law
   select-kth n (Some q) law = let bay = is-bay s k q (law .0) in (bay .0, bay .1, law .0, law .1)
 
-  pub select-by : (n : ℕ) (r : Option ℕ) → SelectIs s k n r → r ≡ selectOf s k n
+  select-by : (n : ℕ) (r : Option ℕ) → SelectIs s k n r → r ≡ selectOf s k n
   unfolding selectOf
   select-by n r law = kth-by (is s k) n (length s) r (select-kth n r law)
+
+  rank-by : (i n : ℕ) → RankIs s k i n → n ≡ rankOf s k i
+  rank-by i n law =
+      let due = rank-counts s k i in
+      let a = law .1 .0 in
+      let b = due .1 .0 in
+      let same = lists-same 0 0 (law .0) (due .0) (a .rising) (b .rising) (λ j m. b .all j (a .only j m)) (λ j m. a .all j (b .only j m)) in
+      sym (law .1 .1) ∙ ap length same ∙ due .1 .1
 
   pub rank-beyond : (i : ℕ) → length s ≤ i → rankOf s k i ≡ rankOf s k (length s)
   unfolding rankOf
@@ -73,3 +83,6 @@ module _ (s : List Bool) (k : Sort) where
       up : (r : Option ℕ) → LastIs (is s k) (length s) r → LastIs (is s k) i r
       up None law = λ j l g. ⊎-elim (λ beyond. is-beyond s k j beyond) (λ within. law j l within) (cases-lt (length s) j)
       up (Some q) law = (law .0, omega (arith, law .1), law .2, λ j l g. ⊎-elim (λ beyond. is-beyond s k j beyond) (λ within. law .3 j l within) (cases-lt (length s) j))
+
+pub laws-decide : Laws-decide
+laws-decide s k i = (next-by s k i, previous-by s k i, rank-by s k i, select-by s k i)

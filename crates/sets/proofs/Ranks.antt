@@ -7,11 +7,10 @@ use Prim.Native.Nat.{ℕ, zero, suc, _+_, _≤_, _<_}
 use native.Mathlib.Omega.{arith}
 use lib.ListN.{length, length-append}
 use Rattle.std.proofs.shelf.Tests.{cases-bool, cases-lt, both-ways}
-use Rattle.sets.specs.declared.Sort.{Sort}
 use Rattle.sets.specs.Lists.{Among, Rising, ListOf}
 use Rattle.sets.specs.Search.{countTo}
 use Rattle.sets.specs.Sets.{is, rankOf}
-use Rattle.sets.specs.Laws.{RankIs, Rank-counts}
+use Rattle.sets.specs.Laws.{Rank-counts}
 use Rattle.sets.proofs.Tests.{count-none, count-here, count-on}
 
 -- one more at the end

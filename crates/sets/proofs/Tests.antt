@@ -1,6 +1,6 @@
 -- The first, the last, the number and the k-th of the numbers that pass a test: their steps, their laws, and that the laws leave
 -- one answer.
-use mathlib.Core.Path.{_≡_, refl, sym, ap, subst, _∙_}
+use mathlib.Core.Path.{_≡_, refl, sym, ap, _∙_}
 use mathlib.Core.Logic.{_⊎_, inl, inr, ⊎-elim}
 use mathlib.Core.Bool.{Bool, true, false, not, cond, _&&_}
 use Prim.Native.Nat.{ℕ, zero, suc, _+_, _-_, _≤_, _<_}
@@ -118,7 +118,7 @@ module _ (f : ℕ → Bool) where
   count-mono n m l = let same : n + (m - n) ≡ m = omega arith in omega (arith, ap (countTo f) same, count-grows n (m - n))
 
   -- one that passes is counted
-  pub count-at : (q : ℕ) → 1 ≤ q → f q ≡ true → countTo f q ≡ suc (countTo f (q - 1))
+  count-at : (q : ℕ) → 1 ≤ q → f q ≡ true → countTo f q ≡ suc (countTo f (q - 1))
   count-at q l e =
       let same : suc (q - 1) ≡ q = omega arith in
       ap (countTo f) (sym same) ∙ count-here (q - 1) (ap f same ∙ e)

@@ -54,6 +54,15 @@ Rank-counts = (s : List Bool) (k : Sort) (i : ℕ) → RankIs s k i (rankOf s k 
 abbrev pub Select-ranks : Type 0
 Select-ranks = (s : List Bool) (k : Sort) (n : ℕ) → SelectIs s k n (selectOf s k n)
 
+-- no other answer obeys its law
+abbrev pub Laws-decide : Type 0
+Laws-decide =
+    (s : List Bool) (k : Sort) (i : ℕ)
+    → ((r : Option ℕ) → NextIs s k i r → r ≡ nextOf s k i)
+    × ((r : Option ℕ) → PreviousIs s k i r → r ≡ previousOf s k i)
+    × ((n : ℕ) → RankIs s k i n → n ≡ rankOf s k i)
+    × ((r : Option ℕ) → SelectIs s k i r → r ≡ selectOf s k i)
+
 -- a set is its last bay and its members, and no more
 abbrev pub Sets-by-members : Type 0
 Sets-by-members = (s t : List Bool) → length s ≡ length t → ((i : ℕ) → isMember s i ≡ isMember t i) → s ≡ t

@@ -3,7 +3,7 @@ ghost use mathlib.Core.Path.{_≡_};
 ghost use mathlib.Core.List.{List};
 ghost use mathlib.Core.Bool.{Bool};
 ghost use lib.ListN.{length};
-ghost use Rattle.sets.specs.Laws.{Sorts-part, Next-smallest, Previous-largest, Rank-counts, Select-ranks, Sets-by-members};
+ghost use Rattle.sets.specs.Laws.{Sorts-part, Next-smallest, Previous-largest, Rank-counts, Select-ranks, Laws-decide, Sets-by-members};
 ghost use Rattle.sets.specs.Sets.{isMember, nextOf, previousOf, rankOf, selectOf, Sized};
 
 mod lent;
@@ -61,5 +61,6 @@ pub fn laws_hold()
     ensures previous { λ _. ⌜ Previous-largest ⌝ }
     ensures rank { λ _. ⌜ Rank-counts ⌝ }
     ensures select { λ _. ⌜ Select-ranks ⌝ }
+    ensures decide { λ _. ⌜ Laws-decide ⌝ }
     ensures members { λ _. ⌜ Sets-by-members ⌝ }
 {}

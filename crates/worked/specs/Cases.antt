@@ -3,7 +3,6 @@ use mathlib.Core.Path.{_≡_}
 use mathlib.Core.List.{List, [], _∷_}
 use mathlib.Core.Bool.{Bool}
 use Prim.Native.Nat.{ℕ}
-use Rattle.faults.specs.Checks.{Verdict}
 use Rattle.faults.specs.Numbers.{refusalNumber}
 use Rattle.faults.specs.declared.fault.Refusal.{Refusal}
 use Rattle.std.specs.declared.option.Option.{Option}
@@ -15,7 +14,6 @@ use Rattle.sets.specs.declared.Sort.the-variants.{Members, Others}
 use Rattle.sets.specs.Sets.{nextOf, previousOf, rankOf, selectOf}
 use Rattle.plain.specs.Decoding.{setOf}
 use Rattle.plain.specs.Opening.{opening}
-use Rattle.round.specs.declared.state.Report.{Report}
 use Rattle.round.specs.declared.state.Taken.{Taken}
 use Rattle.round.specs.declared.walk.Walked.{Walked}
 use Rattle.round.specs.Calls.{goTo, nearestAt}

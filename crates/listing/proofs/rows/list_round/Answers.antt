@@ -3,7 +3,7 @@ use Prim.Native.Nat.{ℕ, suc, _-_}
 use native.Mathlib.Omega.{arith}
 use Rattle.std.specs.Of.Vec.{vec-items}
 use Rattle.round.specs.Machine.{end}
-use Rattle.round.specs.States.{stateOf, fresh}
+use Rattle.round.specs.States.{fresh}
 use Rattle.listing.specs.Listings.{Whole, play, wholeRound}
 use Rattle.listing.proofs.Completing.{complete}
 use Rattle.listing.proofs.rows.list_round.Needs as need

@@ -1,13 +1,11 @@
-use mathlib.Core.Path.{_≡_, sym, ap, subst, _∙_}
+use mathlib.Core.Path.{_≡_, sym, ap, _∙_}
 use mathlib.Core.List.{[], _∷_, _++_}
-use Prim.Native.Nat.{suc, _≤_}
 use native.Mathlib.Omega.{arith}
 use Rattle.std.specs.Of.Vec.{vec-items}
 use Rattle.round.specs.declared.state.Report.{Report}
 use Rattle.round.specs.declared.state.Taken.{Taken}
-use Rattle.round.specs.Machine.{end, nextFrom}
+use Rattle.round.specs.Machine.{nextFrom}
 use Rattle.round.specs.States.{stateOf, afterNext}
-use Rattle.listing.specs.Listings.{play}
 use Rattle.listing.proofs.Playing.{glued, takes, rest, moves-on, glued-more, glued-none}
 use Rattle.listing.proofs.rows.take_rows.Needs as need
 

@@ -1,7 +1,7 @@
-use mathlib.Core.Path.{_≡_, sym, ap, _∙_}
-use Prim.Native.Nat.{suc, _+_, _≤_, _<_}
+use mathlib.Core.Path.{sym, ap, _∙_}
+use Prim.Native.Nat.{_+_, _≤_}
 use native.Mathlib.Omega.{arith}
-use Rattle.round.specs.Machine.{end, common, larger}
+use Rattle.round.specs.Machine.{end}
 use Rattle.round.proofs.Walks.{larger-past, larger-end, common-if, common-not, rest, rest-end, rest-here, rest-on, rest-start}
 use Rattle.round.proofs.Taking.{fewest-at}
 use Rattle.round.proofs.Handing.{handed-at}
