@@ -13,7 +13,7 @@ use Rattle.std.specs.declared.option.Option.the-variants.{Some, None}
 use Rattle.std.proofs.shelf.Tests.{cases-lt, cond-both, eq-eqb, ne-eqb, leb-true, leb-false}
 use Rattle.sets.specs.Search.{firstFrom, countTo, kthTo}
 use Rattle.sets.proofs.Tests.{first-by, count-here, count-on, count-less, kth-by}
-use Rattle.bits.specs.Words.{digit, Holds, upTo}
+use Rattle.bits.specs.Words.{digit, Holds, atMost}
 use Rattle.bits.proofs.Digits.{ones-of-zero, ones-more, front-mask, high-zero, front-digit, not-digit, trailing-low, trailing-hit, trailing-some}
 
 pub miss : (d : ℕ) → d ≡ 0 → eqb d 1 ≡ false
@@ -102,7 +102,7 @@ module _ (f : ℕ → Bool) where
             ap f at-j ∙ shifted p m x k s h (omega arith) ∙ miss _ (ap (λ (z : ℕ). z / 2 ^ s % 2) (sym e) ∙ trailing-low m y s (omega arith)),
       )
 
-  pub up-first : (from last q : ℕ) → 1 ≤ from → from ≤ q → f q ≡ true → Without f (from - 1) (q - 1) → upTo last q ≡ firstFrom f from (suc last - from)
+  pub up-first : (from last q : ℕ) → 1 ≤ from → from ≤ q → f q ≡ true → Without f (from - 1) (q - 1) → atMost last q ≡ firstFrom f from (suc last - from)
   up-first from last q one low hit none =
       cond-both (leb q last) (Some q) None (λ r. r ≡ firstFrom f from (suc last - from))
       (λ e. let high = leb-true q last e in
@@ -134,7 +134,7 @@ module _ (f : ℕ → Bool) where
       let here : f (suc (p + s)) ≡ true = h .place s l ∙ eq-eqb _ 1 hit in
       (ap f at ∙ here, ap (countTo f) at ∙ omega (arith, count-here f (p + s) here, count-part p m x s h (omega arith)))
 
-  pub up-kth : (k last q : ℕ) → 1 ≤ q → f q ≡ true → countTo f q ≡ k → upTo last q ≡ kthTo f k last
+  pub up-kth : (k last q : ℕ) → 1 ≤ q → f q ≡ true → countTo f q ≡ k → atMost last q ≡ kthTo f k last
   up-kth k last q one hit count =
       cond-both (leb q last) (Some q) None (λ r. r ≡ kthTo f k last)
       (λ e. kth-by f k last (Some q) (one, leb-true q last e, hit, count))

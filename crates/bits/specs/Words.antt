@@ -16,5 +16,5 @@ pub record Holds (f : ℕ → Bool) (p m x : ℕ) : Type 0 where
   pub place : (s : ℕ) → s < m → f (suc (p + s)) ≡ digit x s
 
 -- i, unless it lies beyond the last
-abbrev pub upTo : ℕ → ℕ → Option ℕ
-upTo last i = cond (leb i last) (Some i) None
+abbrev pub atMost : ℕ → ℕ → Option ℕ
+atMost last i = cond (leb i last) (Some i) None

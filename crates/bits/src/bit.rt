@@ -1,6 +1,6 @@
 // The two values of a bit.
 
-#[derive(Clone, Copy, PartialEq, Eq, Debug)]
+#[derive(Clone, Copy)]
 pub enum Bit {
     One,
     Zero,

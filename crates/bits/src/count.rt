@@ -6,7 +6,7 @@ ghost use lib.ListN.{length};
 ghost use Rattle.sets.specs.Search.{countTo, kthTo};
 ghost use Rattle.bits.specs.Bits.{bitAt, isBit};
 use super::bit::Bit;
-use super::scan::up_to;
+use super::scan::at_most;
 use super::words::whole_word;
 use super::words::word;
 
@@ -64,7 +64,7 @@ pub fn kth(bytes: &[u8], bit: Bit, k: u32, last: u32) -> Option<u32>
         let v = word(bytes, bit, 8 * w as usize);
         let n = v.count_ones();
         if left <= n {
-            return up_to(64 * w + 1 + place_in_word(v, left), last);
+            return at_most(64 * w + 1 + place_in_word(v, left), last);
         }
         left -= n;
     }

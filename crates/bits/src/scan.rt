@@ -4,13 +4,13 @@ ghost use Prim.Native.Nat.{suc, _-_, _*_, _≤_};
 ghost use lib.ListN.{length};
 ghost use Rattle.sets.specs.Search.{firstFrom, lastTo};
 ghost use Rattle.bits.specs.Bits.{isBit};
-ghost use Rattle.bits.specs.Words.{upTo};
+ghost use Rattle.bits.specs.Words.{atMost};
 use super::bit::Bit;
 use super::words::word;
 
 // `i`, unless it lies beyond `last`.
-pub(crate) fn up_to(i: u32, last: u32) -> Option<u32>
-    ensures { λ r. ⌜ r ≡ upTo last i ⌝ }
+pub(crate) fn at_most(i: u32, last: u32) -> Option<u32>
+    ensures { λ r. ⌜ r ≡ atMost last i ⌝ }
 {
     if i <= last { Some(i) } else { None }
 }
@@ -28,12 +28,12 @@ pub fn next(bytes: &[u8], bit: Bit, from: u32, last: u32) -> Option<u32>
     let p = from - 1;
     let v = word(bytes, bit, 8 * (p / 64) as usize) >> (p % 64);
     if v != 0 {
-        return up_to(from + v.trailing_zeros(), last);
+        return at_most(from + v.trailing_zeros(), last);
     }
     for w in p / 64 + 1..(last + 63) / 64 {
         let x = word(bytes, bit, 8 * w as usize);
         if x != 0 {
-            return up_to(64 * w + 1 + x.trailing_zeros(), last);
+            return at_most(64 * w + 1 + x.trailing_zeros(), last);
         }
     }
     None

@@ -5,6 +5,7 @@ use plain::Plain;
 use plain::PlainCounting;
 use plain::PlainWalking;
 use round::ReportDisplay;
+use round::Taken;
 use round::TakenDisplay;
 use std::error::AnyError;
 
@@ -14,17 +15,23 @@ const LAST: u32 = 16;
 const FREE: [u8; 2] = [135, 7];
 // Bays 2, 5, 9, 10 and 14 are charging bays.
 const CHARGING: [u8; 2] = [18, 35];
+// A row for each bay, and one for none.
+const ROWS: usize = 17;
 
 fn run(rt: &LibcRuntime) -> Result<(), AnyError> {
     let mut free = Plain::empty();
     free.open(LAST, &FREE)?;
     let mut charging = Plain::empty();
     charging.open(LAST, &CHARGING)?;
-    let listing = list_round(rt.alloc(), free, charging)?;
-    for row in listing.rows.iter() {
+    let mut rows = [Taken {
+        bay: None,
+        stretches: 0,
+    }; ROWS];
+    let listed = list_round(free, charging, &mut rows);
+    for row in rows.iter().take(listed.rows) {
         println!(rt, "{row}")?;
     }
-    let report = listing.report;
+    let report = listed.report;
     println!(rt, "{report}")?;
     Ok(())
 }

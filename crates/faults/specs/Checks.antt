@@ -2,6 +2,8 @@
 use mathlib.Core.Bool.{cond}
 use Prim.Native.Nat.{ℕ}
 use lib.Dec.{leb}
+use Rattle.sets.specs.Sets.{LastBay}
+use Rattle.faults.specs.Numbers.{FlawBy}
 use Rattle.faults.specs.declared.fault.Fault.{Fault}
 use Rattle.faults.specs.declared.fault.Flaw.{Flaw}
 use Rattle.faults.specs.declared.fault.Flaw.the-variants.{Numbers}
@@ -15,6 +17,11 @@ Check = Result (Unit {0}) Flaw
 
 abbrev pub lastCheck : ℕ → Check
 lastCheck last = cond (leb 1 last) (cond (leb last 65535) (Ok tt) (Err Numbers)) (Err Numbers)
+
+-- a last bay is taken exactly if a garage may have it
+abbrev pub LastIs : ℕ → Check → Type 0
+LastIs last (Ok _) = LastBay last
+LastIs last (Err e) = FlawBy 1 e (LastBay last → ⊥)
 
 -- what opening or filling answers: all is well, or the fault
 abbrev pub Verdict : Type 0

@@ -34,7 +34,7 @@ pub struct Fault {
 /// Why a call on sets refuses its arguments.
 #[derive(Clone, Copy, PartialEq, Eq, Debug)]
 pub enum Refusal {
-    /// A bay, a count or a place is 0, or the first bay is above the last.
+    /// A bay, the k of a k-th bay or a place is 0, or the first bay is above the last.
     NoBay,
     /// There is no such sign.
     NoSign,

@@ -1,4 +1,4 @@
-// What a call refuses, and which part of what was wrong. Every refusal has a number.
+// Why a call refuses, and which part of which form was wrong. Every refusal has a number.
 mod fault;
 mod number;
 mod text;

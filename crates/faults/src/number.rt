@@ -1,7 +1,7 @@
 // The numbers of the refusals, and how a flaw becomes a fault on its way up.
 ghost use mathlib.Core.Path.{_≡_};
 ghost use Rattle.faults.specs.Numbers.{flawNumber, refusalNumber};
-ghost use Rattle.faults.specs.Checks.{lastCheck, located};
+ghost use Rattle.faults.specs.Checks.{Check, LastIs, lastCheck, located};
 use super::fault::Fault;
 use super::fault::Flaw;
 use super::fault::Form;
@@ -38,7 +38,8 @@ impl Refusal {
 
 /// The last bay lies from 1 to 65,535.
 pub fn check_last(last: u32) -> Result<(), Flaw>
-    ensures { λ r. ⌜ r ≡ lastCheck last ⌝ }
+    ensures answer { λ r. ⌜ r ≡ lastCheck last ⌝ }
+    ensures law { λ r. ⌜ LastIs last r ⌝ }
 {
     match last {
         1..=65535 => Ok(()),
@@ -48,13 +49,17 @@ pub fn check_last(last: u32) -> Result<(), Flaw>
 
 /// Says of a check to which part of which form it belongs.
 pub trait Located: Sized {
-    fn at(self, form: Form, part: u8) -> Result<(), Fault>;
+    // What the check answered.
+    ghost answered: { Self → Check };
+
+    fn at(self, form: Form, part: u8) -> Result<(), Fault>
+        ensures { λ r. ⌜ r ≡ located form part (answered self) ⌝ };
 }
 
 pub impl Located for Result<(), Flaw> as FlawLocated {
-    fn at(self, form: Form, part: u8) -> Result<(), Fault>
-        ensures { λ r. ⌜ r ≡ located form part self ⌝ }
-    {
+    ghost answered = { λ r. r };
+
+    fn at(self, form: Form, part: u8) -> Result<(), Fault> {
         match self {
             Ok(()) => Ok(()),
             Err(flaw) => Err(Fault { flaw, form, part }),

@@ -2,7 +2,7 @@
 use mathlib.Core.Path.{_≡_, refl, sym, subst, _∙_}
 use mathlib.Core.List.{List, [], _∷_}
 use mathlib.Core.Bool.{Bool, true}
-use Prim.Native.Nat.{ℕ, zero, suc, _+_, _-_, _≤_}
+use Prim.Native.Nat.{ℕ, zero, suc, _+_, _-_, _≤_, _<_}
 use native.Mathlib.Omega.{arith}
 use lib.ListN.{length}
 use Rattle.std.specs.declared.option.Option.{Option}
@@ -20,10 +20,15 @@ use Rattle.round.specs.Stretches.{Between, Fewest}
 use Rattle.round.proofs.Handing.{next-handed}
 use Rattle.round.proofs.Made.{Made, made-join, made-listed, made-fewest}
 use Rattle.round.proofs.Taking.{bayOf, next-made}
-use Rattle.listing.specs.Listings.{Whole, before, onward, play, wholeRound, baysOf, Complete}
-use Rattle.listing.proofs.Playing.{moves-on, play-step}
+use Rattle.listing.specs.Listings.{Whole, before, onward, play, baysOf, Complete}
+use Rattle.listing.proofs.Playing.{play-step}
 
 module _ (f c : List Bool) where
+  -- the place behind a bay is above the one before, and not past the end
+  on-by : (p place : ℕ) (o : Option ℕ) (q : ℕ) → o ≡ Some q → HandedIs f c p o place → (p < place) × (place ≤ suc (end f c))
+  on-by p place None q e is = absurd (let z : _≡_ {A = ℕ} 0 1 = cc in omega arith)
+  on-by p place (Some b) q e is = (omega (arith, is .0, is .4), omega (arith, is .1, is .4))
+
   -- a round that stood at s was walked to its end
   record Played (s : Report) (r : Whole) : Type 0 where
     pub stretches : ℕ
@@ -67,7 +72,7 @@ module _ (f c : List Bool) where
       subst (Played s) (sym (play-step f c m s))
       (played-step s (play f c m (afterNext f c s)) (nextFrom f c (s .place) .bay) top
       (next-made f c (s .place) l, refl, next-handed f c (s .place))
-      (λ q e. let on = moves-on f c s q e in play-played m (afterNext f c s) (omega (arith, on .0)) (on .1) (omega (arith, on .0))))
+      (λ q e. let on = on-by (s .place) _ _ q e (next-handed f c (s .place)) in play-played m (afterNext f c s) (omega (arith, on .0)) (on .1) (omega (arith, on .0))))
 
   -- a common bay lies within the round
   common-bay : (j : ℕ) → common f c j ≡ true → Between 1 (suc (end f c)) j
@@ -78,10 +83,9 @@ module _ (f c : List Bool) where
       let in-class = is-bay c Members j (both .1) in
       (in-free .0, omega (arith, in-free .1, in-class .1))
 
-  pub complete : (r : Whole) → r ≡ wholeRound f c → Complete f c r
-  unfolding wholeRound
-  complete r e =
-      let p = subst (Played fresh) (sym e) (play-played (suc (end f c)) fresh (omega arith) (omega arith) (omega arith)) in
+  pub complete : (m : ℕ) (r : Whole) → suc (end f c) ≤ m → r ≡ play f c m fresh → Complete f c r
+  complete m r room e =
+      let p = subst (Played fresh) (sym e) (play-played m fresh (omega arith) (omega arith) (omega arith)) in
       let list = made-listed f c 1 (r .report .place) (baysOf (r .rows)) (p .stretches) (p .way) in
       let same : p .stretches ≡ r .report .stretches = omega (arith, p .taken) in
       record {

@@ -1,77 +1,106 @@
--- A whole round, one next at a time.
+-- A listing, one next at a time.
 use mathlib.Core.Path.{_≡_, refl, sym, ap, _∙_}
 use mathlib.Core.List.{List, [], _∷_, _++_, append-assoc}
-use mathlib.Core.Bool.{Bool}
+use mathlib.Core.Bool.{Bool, true, false}
 use Prim.Native.Nat.{ℕ, zero, suc, _+_, _-_, _≤_, _<_}
+use native.Mathlib.Numerals.{add-one}
 use native.Mathlib.Omega.{arith}
+use lib.ListN.{length, set, take, drop, length-set, length-take, length-append, take-append-drop}
+use lib.Seq.{drop-drop, take-suc-set}
+use Rattle.std.proofs.shelf.Lists.{drop-set-lt, append-nil}
+use Rattle.std.specs.Options.{isSome}
 use Rattle.std.specs.declared.option.Option.{Option}
 use Rattle.std.specs.declared.option.Option.the-variants.{Some, None}
 use Rattle.round.specs.declared.state.Report.{Report}
 use Rattle.round.specs.declared.state.Taken.{Taken}
-use Rattle.round.specs.Handed.{HandedIs}
-use Rattle.round.specs.Machine.{end, nextFrom}
+use Rattle.round.specs.Machine.{nextFrom}
+use Rattle.round.specs.Sheets.{over}
 use Rattle.round.specs.States.{afterNext}
-use Rattle.round.proofs.Handing.{next-handed}
 use Rattle.listing.specs.Listings.{Whole, before, onward, play}
 
 -- rows that were taken before those of r
 abbrev pub glued : List Taken → Whole → Whole
 glued rows r = record { rows = rows ++ r .rows; report = r .report }
 
+onward-some : (o : Option ℕ) (s : Report) (r : Whole) → isSome o ≡ true → onward o s r ≡ r
+onward-some None s r e = absurd (let z : _≡_ {A = ℕ} 0 1 = cc in omega arith)
+onward-some (Some q) s r e = refl
+
+onward-none : (o : Option ℕ) (s : Report) (r : Whole) → isSome o ≡ false → onward o s r ≡ record { rows = []; report = s }
+onward-none None s r e = refl
+onward-none (Some q) s r e = absurd (let z : _≡_ {A = ℕ} 0 1 = cc in omega arith)
+
 module _ (f c : List Bool) where
   abbrev pub takes : Report → Taken
   takes s = record { bay = nextFrom f c (s .place) .bay; stretches = nextFrom f c (s .place) .stretches }
-
-  -- the next place is above a place at which there is a bay, and not past the end
-  on-by : (p place : ℕ) (o : Option ℕ) (q : ℕ) → o ≡ Some q → HandedIs f c p o place → (p < place) × (place ≤ suc (end f c))
-  on-by p place None q e is = absurd (let z : _≡_ {A = ℕ} 0 1 = cc in omega arith)
-  on-by p place (Some b) q e is = (omega (arith, is .0, is .4), omega (arith, is .1, is .4))
-
-  pub moves-on : (s : Report) (q : ℕ) → nextFrom f c (s .place) .bay ≡ Some q → (s .place < nextFrom f c (s .place) .place) × (nextFrom f c (s .place) .place ≤ suc (end f c))
-  moves-on s q e = on-by (s .place) _ _ q e (next-handed f c (s .place))
 
   pub play-step : (m : ℕ) (s : Report) → play f c (suc m) s ≡ before (takes s) (onward (nextFrom f c (s .place) .bay) (afterNext f c s) (play f c m (afterNext f c s)))
   unfolding play
   play-step m s = refl
 
-  -- more calls than there are places left add nothing
-  enough : (m d : ℕ) (s : Report) → s .place ≤ suc (end f c) → suc (suc (end f c)) ≤ m + s .place → play f c (m + d) s ≡ play f c m s
-  enough zero d s top h = absurd (omega arith)
-  enough (suc m) d s top h =
-      let sum : suc m + d ≡ suc (m + d) = omega arith in
-      ap (λ x. play f c x s) sum ∙ play-step (m + d) s ∙ ap (before (takes s)) (same (λ t h. enough m d (afterNext f c s) t h) (nextFrom f c (s .place) .bay) refl) ∙ sym (play-step m s)
-    where
-      same : (afterNext f c s .place ≤ suc (end f c) → suc (suc (end f c)) ≤ m + afterNext f c s .place → play f c (m + d) (afterNext f c s) ≡ play f c m (afterNext f c s)) → (o : Option ℕ) → nextFrom f c (s .place) .bay ≡ o → onward o (afterNext f c s) (play f c (m + d) (afterNext f c s)) ≡ onward o (afterNext f c s) (play f c m (afterNext f c s))
-      same ih None e = refl
-      same ih (Some q) e = let on = moves-on s q e in ih (on .1) (omega (arith, on .0))
+  play-full : (s : Report) → play f c 0 s ≡ record { rows = []; report = s }
+  unfolding play
+  play-full s = refl
 
-  -- the rest of a round that stands at s
-  unfoldable pub rest : Report → Whole
-  rest s = play f c (suc (suc (end f c)) - s .place) s
+  -- n rows are written, and the round stands at s
+  pub record Going (s₀ : Report) (rows₀ : List Taken) (n : ℕ) (s : Report) (rows : List Taken) : Type 0 where
+    pub size : length rows ≡ length rows₀
+    pub wrote : play f c (length rows₀) s₀ ≡ glued (take n rows) (play f c (length rows₀ - n) s)
+    pub kept : drop n rows ≡ drop n rows₀
 
-  rest-step : (s : Report) (o : Option ℕ) → s .place ≤ suc (end f c) → nextFrom f c (s .place) .bay ≡ o → rest s ≡ before (takes s) (onward o (afterNext f c s) (play f c (suc (end f c) - s .place) (afterNext f c s)))
-  unfolding rest
-  rest-step s o top e =
-      let sum : suc (suc (end f c)) - s .place ≡ suc (suc (end f c) - s .place) = omega arith in
-      ap (λ x. play f c x s) sum ∙ play-step (suc (end f c) - s .place) s ∙ ap (λ (x : Option ℕ). before (takes s) (onward x (afterNext f c s) (play f c (suc (end f c) - s .place) (afterNext f c s)))) e
+  -- all rows are written
+  pub record Done (s₀ : Report) (rows₀ : List Taken) (n : ℕ) (s : Report) (rows : List Taken) : Type 0 where
+    pub counts : n ≡ length (play f c (length rows₀) s₀ .rows)
+    pub writes : rows ≡ over (play f c (length rows₀) s₀ .rows) rows₀
+    pub state : s ≡ play f c (length rows₀) s₀ .report
 
-  rest-none : (s : Report) → s .place ≤ suc (end f c) → nextFrom f c (s .place) .bay ≡ None → rest s ≡ record { rows = takes s ∷ []; report = afterNext f c s }
-  rest-none s top e = rest-step s None top e
+  module _ (s₀ : Report) (rows₀ : List Taken) where
+    done : (n : ℕ) (s : Report) (rows : List Taken) → n ≤ length rows → drop n rows ≡ drop n rows₀ → play f c (length rows₀) s₀ ≡ record { rows = take n rows; report = s } → Done s₀ rows₀ n s rows
+    done n s rows h kept all =
+        let whole = play f c (length rows₀) s₀ in
+        let are : whole .rows ≡ take n rows = ap (λ (r : Whole). r .rows) all in
+        let long : length (whole .rows) ≡ n = ap length are ∙ length-take n rows ∙ omega arith in
+        record {
+          counts = sym long;
+          writes = sym (take-append-drop n rows) ∙ ap (λ (ts : List Taken). take n rows ++ ts) kept ∙ (λ j. sym are j ++ drop (sym long j) rows₀);
+          state = sym (ap (λ (r : Whole). r .report) all);
+        }
 
-  rest-some : (s : Report) (q : ℕ) → s .place ≤ suc (end f c) → nextFrom f c (s .place) .bay ≡ Some q → rest s ≡ before (takes s) (rest (afterNext f c s))
-  unfolding rest
-  rest-some s q top e =
-      let on = moves-on s q e in
-      let s' = afterNext f c s in
-      let m = suc (suc (end f c)) - s' .place in
-      let d = suc (end f c) - s .place - m in
-      let sum : suc (end f c) - s .place ≡ m + d = omega (arith, on .0, on .1) in
-      rest-step s (Some q) top e ∙ ap (λ x. before (takes s) (play f c x s')) sum ∙ ap (before (takes s)) (enough m d s' (on .1) (omega (arith, on .1)))
+    -- one row more
+    front-more : (n : ℕ) (rows : List Taken) (t : Taken) → n < length rows → take n rows ++ (t ∷ []) ≡ take (n + 1) (set rows n t)
+    front-more n rows t h = sym (take-suc-set rows n t h) ∙ ap (λ (k : ℕ). take k (set rows n t)) (sym (add-one n))
 
-  -- one row more
-  pub glued-more : (rows : List Taken) (s : Report) (q : ℕ) (r : Whole) → s .place ≤ suc (end f c) → nextFrom f c (s .place) .bay ≡ Some q → r ≡ glued rows (rest s) → r ≡ glued (rows ++ takes s ∷ []) (rest (afterNext f c s))
-  glued-more rows s q r top e is =
-      is ∙ ap (glued rows) (rest-some s q top e) ∙ (λ i. record { rows = sym (append-assoc rows (takes s ∷ []) (rest (afterNext f c s) .rows)) i; report = rest (afterNext f c s) .report })
+    kept-more : (n : ℕ) (rows : List Taken) (t : Taken) → drop n rows ≡ drop n rows₀ → drop (n + 1) (set rows n t) ≡ drop (n + 1) rows₀
+    kept-more n rows t kept = drop-set-lt (n + 1) rows n t (omega arith) ∙ sym (drop-drop 1 n rows) ∙ ap (drop 1) kept ∙ drop-drop 1 n rows₀
 
-  pub glued-none : (rows : List Taken) (s : Report) (r : Whole) → s .place ≤ suc (end f c) → nextFrom f c (s .place) .bay ≡ None → r ≡ glued rows (rest s) → r ≡ record { rows = rows ++ takes s ∷ []; report = afterNext f c s }
-  glued-none rows s r top e is = is ∙ ap (glued rows) (rest-none s top e)
+    -- what the whole is after one more next
+    next-row : (n : ℕ) (s : Report) (rows : List Taken) → n < length rows₀ → Going s₀ rows₀ n s rows → play f c (length rows₀) s₀ ≡ glued (take (n + 1) (set rows n (takes s))) (onward (nextFrom f c (s .place) .bay) (afterNext f c s) (play f c (length rows₀ - (n + 1)) (afterNext f c s)))
+    next-row n s rows h i =
+        let less : length rows₀ - n ≡ suc (length rows₀ - (n + 1)) = omega arith in
+        let r = onward (nextFrom f c (s .place) .bay) (afterNext f c s) (play f c (length rows₀ - (n + 1)) (afterNext f c s)) in
+        let fits : n < length rows = omega (arith, i .size) in
+        i .wrote
+        ∙ ap (λ (k : ℕ). glued (take n rows) (play f c k s)) less
+        ∙ ap (glued (take n rows)) (play-step (length rows₀ - (n + 1)) s)
+        ∙ (λ j. record { rows = sym (append-assoc (take n rows) (takes s ∷ []) (r .rows)) j; report = r .report })
+        ∙ ap (λ (front : List Taken). glued front r) (front-more n rows (takes s) fits)
+
+    pub going-more : (n : ℕ) (s : Report) (rows : List Taken) → n < length rows₀ → isSome (nextFrom f c (s .place) .bay) ≡ true → Going s₀ rows₀ n s rows → Going s₀ rows₀ (n + 1) (afterNext f c s) (set rows n (takes s))
+    going-more n s rows h e i = record {
+      size = length-set rows n (takes s) ∙ i .size;
+      wrote = next-row n s rows h i ∙ ap (glued (take (n + 1) (set rows n (takes s)))) (onward-some _ _ _ e);
+      kept = kept-more n rows (takes s) (i .kept);
+    }
+
+    pub done-none : (n : ℕ) (s : Report) (rows : List Taken) → n < length rows₀ → isSome (nextFrom f c (s .place) .bay) ≡ false → Going s₀ rows₀ n s rows → Done s₀ rows₀ (n + 1) (afterNext f c s) (set rows n (takes s))
+    done-none n s rows h e i =
+        let front = take (n + 1) (set rows n (takes s)) in
+        done (n + 1) (afterNext f c s) (set rows n (takes s)) (omega (arith, length-set rows n (takes s), i .size)) (kept-more n rows (takes s) (i .kept))
+        (next-row n s rows h i ∙ ap (glued front) (onward-none _ _ _ e) ∙ (λ j. record { rows = append-nil front j; report = afterNext f c s }))
+
+    pub done-full : (n : ℕ) (s : Report) (rows : List Taken) → n ≡ length rows₀ → Going s₀ rows₀ n s rows → Done s₀ rows₀ n s rows
+    done-full n s rows h i =
+        let less : length rows₀ - n ≡ 0 = omega arith in
+        done n s rows (omega (arith, i .size)) (i .kept)
+        (i .wrote ∙ ap (λ (k : ℕ). glued (take n rows) (play f c k s)) less ∙ ap (glued (take n rows)) (play-full s)
+        ∙ (λ j. record { rows = append-nil (take n rows) j; report = s }))

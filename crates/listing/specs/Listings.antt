@@ -1,4 +1,4 @@
--- A whole round: next is called until it gives none, and the round is closed.
+-- A listing: next is called until it gives none or there is no room for more rows, and then the round is closed.
 use mathlib.Core.Path.{_≡_}
 use mathlib.Core.List.{List, [], _∷_}
 use mathlib.Core.Bool.{Bool, true}
@@ -10,7 +10,7 @@ use Rattle.sets.specs.Lists.{ListOf}
 use Rattle.round.specs.declared.state.Report.{Report}
 use Rattle.round.specs.declared.state.Taken.{Taken}
 use Rattle.round.specs.Machine.{end, common, nextFrom}
-use Rattle.round.specs.States.{fresh, afterNext}
+use Rattle.round.specs.States.{afterNext}
 use Rattle.round.specs.Stretches.{Between, Fewest}
 
 -- what each next gave, and the closing report
@@ -26,16 +26,12 @@ abbrev pub onward : Option ℕ → Report → Whole → Whole
 onward None s r = record { rows = []; report = s }
 onward (Some b) s r = r
 
--- at most m calls of next from the state s on
+-- with room for m rows, from the state s on
 unfoldable pub play : List Bool → List Bool → ℕ → Report → Whole
 play f c zero s = record { rows = []; report = s }
 play f c (suc m) s =
     let w = nextFrom f c (s .place) in
     before (record { bay = w .bay; stretches = w .stretches }) (onward (w .bay) (afterNext f c s) (play f c m (afterNext f c s)))
-
--- a next for each bay, and one that gives none, suffice
-unfoldable pub wholeRound : List Bool → List Bool → Whole
-wholeRound f c = play f c (suc (end f c)) fresh
 
 -- the bays in the rows, in order
 abbrev pub bayAnd : Option ℕ → List ℕ → List ℕ

@@ -2,5 +2,5 @@
 mod list;
 mod rows;
 
-pub use list::Listing;
+pub use list::Listed;
 pub use rows::list_round;

@@ -1,10 +1,9 @@
-// What a whole round gives.
+// What a listing answers.
 use round::Report;
-use round::Taken;
 
-/// What each `next` of a whole round gave, and the closing report.
-#[derive(Drop)]
-pub struct Listing {
-    pub rows: Vec<Taken>,
+/// How many rows were written, and the closing report.
+#[derive(Clone, Copy)]
+pub struct Listed {
+    pub rows: usize,
     pub report: Report,
 }

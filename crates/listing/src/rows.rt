@@ -1,51 +1,44 @@
 // A round that is walked to its end.
 ghost use mathlib.Core.Path.{_≡_};
-ghost use Prim.Native.Nat.{suc, _-_, _≤_};
-ghost use Rattle.std.specs.Of.Vec.{vec-items};
-ghost use Rattle.std.specs.Vec.{made};
+ghost use Prim.Native.Nat.{suc, _≤_};
+ghost use lib.ListN.{length, take};
 ghost use Rattle.round.specs.Machine.{end};
-ghost use Rattle.round.specs.States.{stateOf};
-ghost use Rattle.listing.specs.Listings.{Complete, play, wholeRound};
-use super::list::Listing;
+ghost use Rattle.round.specs.Sheets.{over};
+ghost use Rattle.round.specs.States.{stateOf, fresh};
+ghost use Rattle.listing.specs.Listings.{Complete, play};
+use super::list::Listed;
 use round::Round;
 use round::Taken;
 use sets::Counting;
 use sets::Walking;
-use std::alloc::AllocError;
-use std::alloc::Global;
 
-// What each `next` gives, until one gives none.
-fn take_rows<F: Counting, C: Walking>(
-    heap: Global,
-    round: &mut Round<F, C>,
-) -> Result<Vec<Taken>, AllocError>
-    requires { ⌜ now round .place ≤ suc (end (F·Walking .meant (now round .free)) (C·Walking .meant (now round .class))) ⌝ }
-    ensures { λ r. let f = F·Walking .meant (now (round .entry) .free) in let c = C·Walking .meant (now (round .entry) .class) in ⌜ made r (λ v. play f c (suc (suc (end f c)) - now (round .entry) .place) (stateOf (now (round .entry))) ≡ record { rows = vec-items v; report = stateOf (now (round .exit)) }) ⌝ }
+// Writes what each `next` gives, until one gives none or the memory is full, and says how many rows that were.
+fn take_rows<F: Counting, C: Walking>(round: &mut Round<F, C>, rows: &mut [Taken]) -> usize
+    ensures answer { λ r. let f = F·Walking .meant (now (round .entry) .free) in let c = C·Walking .meant (now (round .entry) .class) in let p = play f c (length (now (rows .entry))) (stateOf (now (round .entry))) in ⌜ r ≡ length (p .rows) ⌝ }
+    ensures writes { λ _. let f = F·Walking .meant (now (round .entry) .free) in let c = C·Walking .meant (now (round .entry) .class) in let p = play f c (length (now (rows .entry))) (stateOf (now (round .entry))) in ⌜ now (rows .exit) ≡ over (p .rows) (now (rows .entry)) ⌝ }
+    ensures state { λ _. let f = F·Walking .meant (now (round .entry) .free) in let c = C·Walking .meant (now (round .entry) .class) in let p = play f c (length (now (rows .entry))) (stateOf (now (round .entry))) in ⌜ stateOf (now (round .exit)) ≡ p .report ⌝ }
 {
-    let mut rows = Vec::new(heap);
-    loop {
+    for n in 0..rows.len() {
         let taken = round.next();
-        rows.push(taken)?;
-        let Some(_) = taken.bay else {
-            return Ok(rows);
-        };
+        rows[n] = taken;
+        if taken.bay.is_none() {
+            return n + 1;
+        }
     }
+    rows.len()
 }
 
-/// Walks a fresh round over the two sets to its end, and closes it.
-pub fn list_round<F: Counting + Drop, C: Walking + Drop>(
-    heap: Global,
-    free: F,
-    class: C,
-) -> Result<Listing, AllocError>
-    ensures rows { λ r. let f = F·Walking .meant free in let c = C·Walking .meant class in ⌜ made r (λ l. record { rows = vec-items (l .rows); report = l .report } ≡ wholeRound f c) ⌝ }
-    ensures all { λ r. let f = F·Walking .meant free in let c = C·Walking .meant class in ⌜ made r (λ l. Complete f c (record { rows = vec-items (l .rows); report = l .report })) ⌝ }
+/// Writes the rows of a fresh round over the two sets, from the front of `rows` on, and closes it. A row for each bay and one
+/// more are room enough for the whole round.
+pub fn list_round<F: Counting + Drop, C: Walking + Drop>(free: F, class: C, rows: &mut [Taken]) -> Listed
+    ensures answer { λ r. let f = F·Walking .meant free in let c = C·Walking .meant class in let p = play f c (length (now (rows .entry))) fresh in ⌜ r ≡ record { rows = length (p .rows); report = p .report } ⌝ }
+    ensures writes { λ _. let f = F·Walking .meant free in let c = C·Walking .meant class in let p = play f c (length (now (rows .entry))) fresh in ⌜ now (rows .exit) ≡ over (p .rows) (now (rows .entry)) ⌝ }
+    ensures all { λ r. let f = F·Walking .meant free in let c = C·Walking .meant class in ⌜ (suc (end f c) ≤ length (now (rows .entry)) → Complete f c (record { rows = take (r .rows) (now (rows .exit)); report = r .report })) ⌝ }
 {
     let mut round = Round::new(free, class);
-    let rows = take_rows(heap, &mut round);
-    let report = round.close();
-    Ok(Listing {
-        rows: rows?,
-        report,
-    })
+    let written = take_rows(&mut round, rows);
+    Listed {
+        rows: written,
+        report: round.close(),
+    }
 }

@@ -16,7 +16,7 @@ use Rattle.sets.proofs.Bays.{is-inside, is-beyond}
 use Rattle.sets.proofs.Only.{next-zero, previous-beyond, rank-beyond}
 use Rattle.sets.proofs.Tests.{first-agree, last-agree, count-agree, kth-agree, count-others}
 use Rattle.bits.specs.Bits.{bitAt, matches, isBit, bitFor}
-use Rattle.plain.specs.Decoding.{setOf, set-length}
+use Rattle.plain.specs.Decoding.{setOf, set-length, Decodes}
 
 fits-matches : (k : Sort) (b : Bool) → fits k b ≡ matches (bitFor k) b
 fits-matches Members b = refl
@@ -31,6 +31,9 @@ module _ (u : ℕ) (bytes : List ℕ) where
       ∙ ap (fits k) (getD-map-counting (λ j. bitAt bytes (suc j)) 0 u (i - 1) (i - 1) false (omega arith) (omega arith))
       ∙ fits-matches k (bitAt bytes (suc (i - 1)))
       ∙ ap (λ (j : ℕ). isBit bytes (bitFor k) j) at
+
+  pub decodes : Decodes u bytes (setOf u bytes)
+  decodes = (set-length u bytes, λ i l h. set-is Members i l h)
 
   pub set-outside : (k : Sort) (i : ℕ) → u < i → is (setOf u bytes) k i ≡ false
   set-outside k i h = is-beyond (setOf u bytes) k i (omega (arith, set-length u bytes))

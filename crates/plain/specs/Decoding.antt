@@ -8,7 +8,7 @@ use lib.ListN.{length}
 use Rattle.std.specs.Iters.{counting}
 use Rattle.std.proofs.shelf.Counted.{length-map-counting}
 use Rattle.bits.specs.Bits.{bitAt}
-use Rattle.sets.specs.Sets.{Sized}
+use Rattle.sets.specs.Sets.{LastBay, Sized, isMember}
 
 -- the bays 1 to u, of which bay i is a member exactly if bit i is 1
 unfoldable pub setOf : ℕ → List ℕ → List Bool
@@ -18,5 +18,9 @@ pub set-length : (u : ℕ) (bytes : List ℕ) → length (setOf u bytes) ≡ u
 unfolding setOf
 set-length u bytes = length-map-counting (λ j. bitAt bytes (suc j)) 0 u
 
-pub set-sized : (u : ℕ) (bytes : List ℕ) → 1 ≤ u → u ≤ 65535 → Sized (setOf u bytes)
-set-sized u bytes l h = let e = set-length u bytes in (omega arith, omega arith)
+pub set-sized : (u : ℕ) (bytes : List ℕ) → LastBay u → Sized (setOf u bytes)
+set-sized u bytes h = let e = set-length u bytes in (omega (arith, h .0), omega (arith, h .1))
+
+-- the law of the set: u is its last bay, and bay i is a member exactly if bit i is 1
+abbrev pub Decodes : ℕ → List ℕ → List Bool → Type 0
+Decodes u bytes s = (length s ≡ u) × ((i : ℕ) → 1 ≤ i → i ≤ u → isMember s i ≡ bitAt bytes i)

@@ -10,7 +10,7 @@ use sets::Walking;
 pub impl<'a> Walking for Plain<'a> as PlainWalking {
     ghost meant = { λ p. setOf (p .last) (held (p .bits)) };
 
-    ghost sized = { λ p. set-sized (p .last) (held (p .bits)) (p .first) (p .limit) };
+    ghost sized = { λ p. set-sized (p .last) (held (p .bits)) (p .sized) };
 
     fn last(&self) -> u32 {
         self.last

@@ -1,6 +1,8 @@
 // Opening a plain index from the caller's memory.
 ghost use mathlib.Core.Path.{_≡_};
 ghost use mathlib.Core.List.{[], _∷_};
+ghost use mathlib.Core.Bool.{false};
+ghost use Rattle.plain.specs.Decoding.{setOf, Decodes};
 ghost use Rattle.plain.specs.Opening.{opening, OpeningIs, Opened};
 use super::index::Plain;
 use bits::check;
@@ -17,6 +19,7 @@ impl<'a> Plain<'a> {
     pub fn empty() -> Plain<'a>
         ensures last { λ r. ⌜ r .last ≡ 1 ⌝ }
         ensures bits { λ r. ⌜ now (r .bits) ≡ 0 ∷ [] ⌝ }
+        ensures means { λ r. ⌜ setOf (r .last) (now (r .bits)) ≡ false ∷ [] ⌝ }
     {
         Plain {
             last: 1,
@@ -28,6 +31,7 @@ impl<'a> Plain<'a> {
     pub fn open(&mut self, last: u32, bits: &'a [u8]) -> Result<(), Fault>
         ensures answer { λ r. ⌜ r ≡ opening last (now (bits .entry)) ⌝ }
         ensures law { λ r. ⌜ OpeningIs last (now (bits .entry)) r ⌝ }
+        ensures means { λ _. ⌜ Decodes last (now (bits .entry)) (setOf last (now (bits .entry))) ⌝ }
         ensures place { λ r. ⌜ Opened r (now (self .entry)) (now (self .exit)) last (now (bits .entry)) ⌝ }
     {
         check_last(last).at(Form::Plain, 0)?;

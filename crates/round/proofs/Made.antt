@@ -14,7 +14,8 @@ use Rattle.round.proofs.Greedy.{reach, reach-lawful, reach-here, reach-on, lon
 use Rattle.round.proofs.Handing.{passes-none}
 use Rattle.sets.specs.Lists.{Each, Among, ListOf}
 use Rattle.round.specs.Stretches.{Row, Between, Has, In, Apart, Lawful, Stretch, Fewest}
-use Rattle.round.proofs.Ways.{any-split, any-left, any-right, each-join, apart-join, Steps, steps-from, steps-join, steps-up, steps-in, steps-rising}
+use Rattle.sets.proofs.Joins.{any-split, any-left, any-right, each-join}
+use Rattle.round.proofs.Ways.{apart-join, Steps, steps-from, steps-join, steps-up, steps-in, steps-rising}
 
 pub record Made (f c : List Bool) (p e : ℕ) (bays : List ℕ) (n : ℕ) : Type 0 where
   pub rises : Steps suc p e bays

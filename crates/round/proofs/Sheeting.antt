@@ -61,7 +61,6 @@ module _ (f c : List Bool) (s₀ : Report) (out₀ : List ℕ) where
       let fits : n < length out = omega (arith, i .size) in
       let less : length out₀ - n ≡ suc (length out₀ - (n + 1)) = omega arith in
       let low = i .grown in
-      let at : s .place ≡ s .place = refl in
       let place' : s' .place ≡ w .place = ap (λ (x : Report). x .place) g in
       let stretches' : s' .stretches ≡ s .stretches + w .stretches = ap (λ (x : Report). x .stretches) g in
       let handed' : s' .handed ≡ s .handed + 1 = ap (λ (x : Report). x .handed) g ∙ ap (λ (o : Option ℕ). s .handed + handedBy o) (sym e) in
@@ -80,8 +79,8 @@ module _ (f c : List Bool) (s₀ : Report) (out₀ : List ℕ) where
       }
 
   -- the bays of the whole sheet are those written
-  done : (n t p : ℕ) (s : Report) (out : List ℕ) → n ≤ length out₀ → length out ≡ length out₀ → drop n out ≡ drop n out₀ → s .handed ≡ s₀ .handed + n → s₀ .stretches + t ≡ s .stretches → sheetFrom f c (length out₀) (s₀ .place) ≡ record { bays = take n out ++ []; place = s .place; stretches = t } → Done f c s₀ out₀ s out
-  done n t p s out h size kept many grown all =
+  done : (n t : ℕ) (s : Report) (out : List ℕ) → n ≤ length out₀ → length out ≡ length out₀ → drop n out ≡ drop n out₀ → s .handed ≡ s₀ .handed + n → s₀ .stretches + t ≡ s .stretches → sheetFrom f c (length out₀) (s₀ .place) ≡ record { bays = take n out ++ []; place = s .place; stretches = t } → Done f c s₀ out₀ s out
+  done n t s out h size kept many grown all =
       let page = sheetFrom f c (length out₀) (s₀ .place) in
       let bays : page .bays ≡ take n out = ap (λ (r : Page). r .bays) all ∙ append-nil (take n out) in
       let place' : page .place ≡ s .place = ap (λ (r : Page). r .place) all in
@@ -104,7 +103,7 @@ module _ (f c : List Bool) (s₀ : Report) (out₀ : List ℕ) where
       let place' : s' .place ≡ w .place = ap (λ (x : Report). x .place) g in
       let stretches' : s' .stretches ≡ s .stretches + w .stretches = ap (λ (x : Report). x .stretches) g in
       let handed' : s' .handed ≡ s .handed + 0 = ap (λ (x : Report). x .handed) g ∙ ap (λ (o : Option ℕ). s .handed + handedBy o) (sym e) in
-      done n (s .stretches - s₀ .stretches + w .stretches) (s' .place) s' out (omega arith) (i .size) (i .kept) (omega (arith, i .many)) (omega arith)
+      done n (s .stretches - s₀ .stretches + w .stretches) s' out (omega arith) (i .size) (i .kept) (omega (arith, i .many)) (omega arith)
       (i .wrote
       ∙ ap (λ (k : ℕ). onto (take n out) (s .stretches - s₀ .stretches) (sheetFrom f c k (s .place))) less
       ∙ ap (onto (take n out) (s .stretches - s₀ .stretches)) (sheet-none f c (length out₀ - (n + 1)) (s .place) (sym e))
@@ -116,6 +115,6 @@ module _ (f c : List Bool) (s₀ : Report) (out₀ : List ℕ) where
       let less : length out₀ - n ≡ 0 = omega arith in
       let t = s .stretches - s₀ .stretches in
       let sum : t + 0 ≡ t = omega arith in
-      done n t (s .place) s out (omega arith) (i .size) (i .kept) (i .many) (omega arith)
+      done n t s out (omega arith) (i .size) (i .kept) (i .many) (omega arith)
       (i .wrote ∙ ap (λ (k : ℕ). onto (take n out) t (sheetFrom f c k (s .place))) less ∙ ap (onto (take n out) t) (sheet-full f c (s .place))
       ∙ (λ j. record { bays = take n out ++ []; place = s .place; stretches = sum j }))

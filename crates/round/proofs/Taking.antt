@@ -14,7 +14,7 @@ use Rattle.round.specs.declared.state.Report.{Report}
 use Rattle.round.specs.declared.walk.Walked.{Walked}
 use Rattle.round.specs.Machine.{end, common, larger, walk, nextFrom}
 use Rattle.round.specs.Stretches.{Between, Fewest}
-use Rattle.round.specs.Handed.{HandedIs, SheetIs, behind}
+use Rattle.round.specs.Handed.{HandedIs, Stops, SheetIs, behind}
 use Rattle.round.specs.Sheets.{Page, paged, sheetFrom}
 use Rattle.round.proofs.Walks.{larger-past, walk-end, walk-here, walk-on}
 use Rattle.round.proofs.Handing.{next-handed}
@@ -76,13 +76,10 @@ module _ (f c : List Bool) where
       let up = steps-up suc p (w .place) (bayOf (w .bay)) (a .rises) in
       subst (PageTo p) (sym (sheet-step f c k p)) (page-made p w (sheetFrom f c k (w .place)) (w .bay) a (sheet-made k (w .place) (omega arith)))
 
-  -- where a sheet with room for k stops
-  record Stops (p k : ℕ) (r : Page) : Type 0 where
-    pub fits : length (r .bays) ≤ k
-    pub full : length (r .bays) ≡ k → r .place ≡ behind p (r .bays)
-    pub short : length (r .bays) < k → r .place ≡ max p (suc (end f c))
+  abbrev PageStops : ℕ → ℕ → Page → Type 0
+  PageStops p k r = Stops f c p k (r .bays) (r .place)
 
-  page-stops : (p k : ℕ) (w : Walked) (r : Page) (o : Option ℕ) → HandedIs f c p o (w .place) → Stops (w .place) k r → Stops p (suc k) (paged o w r)
+  page-stops : (p k : ℕ) (w : Walked) (r : Page) (o : Option ℕ) → HandedIs f c p o (w .place) → PageStops (w .place) k r → PageStops p (suc k) (paged o w r)
   page-stops p k w r None is s = record { fits = omega arith; full = λ e. absurd (omega arith); short = λ l. is .1 }
   page-stops p k w r (Some q) is s = record {
     fits = omega (arith, s .fits);
@@ -90,16 +87,14 @@ module _ (f c : List Bool) where
     short = λ l. s .short (omega arith) ∙ omega (arith, is .0, is .1, is .4);
   }
 
-  sheet-stops : (k p : ℕ) → Stops p k (sheetFrom f c k p)
-  sheet-stops zero p = subst (Stops p 0) (sym (sheet-full f c p)) (record { fits = omega arith; full = λ e. refl; short = λ l. absurd (omega arith) })
+  sheet-stops : (k p : ℕ) → PageStops p k (sheetFrom f c k p)
+  sheet-stops zero p = subst (PageStops p 0) (sym (sheet-full f c p)) (record { fits = omega arith; full = λ e. refl; short = λ l. absurd (omega arith) })
   sheet-stops (suc k) p =
       let w = nextFrom f c p in
-      subst (Stops p (suc k)) (sym (sheet-step f c k p)) (page-stops p k w (sheetFrom f c k (w .place)) (w .bay) (next-handed f c p) (sheet-stops k (w .place)))
+      subst (PageStops p (suc k)) (sym (sheet-step f c k p)) (page-stops p k w (sheetFrom f c k (w .place)) (w .bay) (next-handed f c p) (sheet-stops k (w .place)))
 
   sheet-is : (k p : ℕ) → 1 ≤ p → SheetIs f c p k (sheetFrom f c k p .bays) (sheetFrom f c k p .place)
-  sheet-is k p l =
-      let s = sheet-stops k p in
-      record { listed = made-listed f c p _ _ _ (sheet-made k p l); fits = s .fits; full = s .full; short = s .short }
+  sheet-is k p l = record { listed = made-listed f c p _ _ _ (sheet-made k p l); stops = sheet-stops k p }
 
   -- of a sheet that is done, from the state s₀ and the memory out₀ to s and out
   module _ (s₀ : Report) (out₀ : List ℕ) (s : Report) (out : List ℕ) (some : 1 ≤ s₀ .place) (d : Done f c s₀ out₀ s out) where

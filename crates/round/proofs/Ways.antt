@@ -1,29 +1,11 @@
--- Joined lists: one of them, each of them, rows apart, numbers that step up.
+-- Rows apart, and numbers that step up, in joined lists.
 use mathlib.Core.Logic.{_⊎_, inl, inr, ⊎-elim}
 use mathlib.Core.List.{List, [], _∷_, _++_}
 use Prim.Native.Nat.{ℕ, suc, _+_, _≤_, _<_}
 use native.Mathlib.Omega.{arith}
-use Rattle.sets.specs.Lists.{Any, Each, Among, Rising}
+use Rattle.sets.specs.Lists.{Among, Rising}
+use Rattle.sets.proofs.Joins.{any-split}
 use Rattle.round.specs.Stretches.{Row, Has, In, Apart}
-
-module _ {A : Type 0} (P : A → Type 0) where
-  pub any-split : (xs ys : List A) → Any P (xs ++ ys) → Any P xs ⊎ Any P ys
-  any-split [] ys h = inr h
-  any-split (x ∷ xs) ys (inl h) = inl (inl h)
-  any-split (x ∷ xs) ys (inr h) = ⊎-elim (λ l. inl (inr l)) (λ r. inr r) (any-split xs ys h)
-
-  pub any-left : (xs ys : List A) → Any P xs → Any P (xs ++ ys)
-  any-left [] ys h = absurd h
-  any-left (x ∷ xs) ys (inl h) = inl h
-  any-left (x ∷ xs) ys (inr h) = inr (any-left xs ys h)
-
-  pub any-right : (xs ys : List A) → Any P ys → Any P (xs ++ ys)
-  any-right [] ys h = h
-  any-right (x ∷ xs) ys h = inr (any-right xs ys h)
-
-  pub each-join : (xs ys : List A) → Each P xs → Each P ys → Each P (xs ++ ys)
-  each-join [] ys h k = k
-  each-join (x ∷ xs) ys h k = (h .0, each-join xs ys (h .1) k)
 
 pub apart-join : (rows more : List Row) → Apart rows → Apart more → ((j : ℕ) → In rows j → In more j → ⊥) → Apart (rows ++ more)
 apart-join [] more h k n = k

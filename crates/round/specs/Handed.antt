@@ -21,10 +21,13 @@ abbrev pub behind : ℕ → List ℕ → ℕ
 behind p [] = p
 behind p (b ∷ bays) = behind (suc b) bays
 
--- the first common bays from p on, as many as fit into k numbers: all that lie before the place, which is behind the last of
--- them where the k are full, and else behind the end
-pub record SheetIs (f c : List Bool) (p k : ℕ) (bays : List ℕ) (place : ℕ) : Type 0 where
-  pub listed : ListOf (λ j. Between p place j × (common f c j ≡ true)) bays
+-- at most k bays are taken; the place is behind the last of them where they are k, and else behind the end
+pub record Stops (f c : List Bool) (p k : ℕ) (bays : List ℕ) (place : ℕ) : Type 0 where
   pub fits : length bays ≤ k
   pub full : length bays ≡ k → place ≡ behind p bays
   pub short : length bays < k → place ≡ max p (suc (end f c))
+
+-- the first common bays from p on, as many as fit into k numbers: all that lie before the place
+pub record SheetIs (f c : List Bool) (p k : ℕ) (bays : List ℕ) (place : ℕ) : Type 0 where
+  pub listed : ListOf (λ j. Between p place j × (common f c j ≡ true)) bays
+  pub stops : Stops f c p k bays place

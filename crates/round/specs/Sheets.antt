@@ -24,6 +24,6 @@ unfoldable pub sheetFrom : List Bool → List Bool → ℕ → ℕ → Page
 sheetFrom f c zero p = record { bays = []; place = p; stretches = 0 }
 sheetFrom f c (suc k) p = let w = nextFrom f c p in paged (w .bay) w (sheetFrom f c k (w .place))
 
--- the bays stand at the front of the memory, and what lies behind them is kept
-abbrev pub over : List ℕ → List ℕ → List ℕ
-over bays memory = bays ++ drop (length bays) memory
+-- what is written stands at the front of the memory, and what lies behind is kept
+abbrev pub over : {A : Type 0} → List A → List A → List A
+over front memory = front ++ drop (length front) memory

@@ -19,4 +19,3 @@ pub use state::WrittenDebug;
 pub use state::WrittenPartialEq;
 pub use text::ReportDisplay;
 pub use text::TakenDisplay;
-pub use walk::Walked;

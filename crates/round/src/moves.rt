@@ -1,13 +1,12 @@
 // The calls that open a round, move it and close it.
 ghost use mathlib.Core.Path.{_≡_};
-ghost use Prim.Native.Nat.{suc, _+_, _≤_};
 ghost use lib.ListN.{length, take};
 ghost use Rattle.round.specs.Answers.{GoIs};
 ghost use Rattle.round.specs.Calls.{goTo};
 ghost use Rattle.round.specs.Handed.{HandedIs, SheetIs};
 ghost use Rattle.round.specs.Machine.{end, nextFrom};
 ghost use Rattle.round.specs.Sheets.{sheetFrom, over};
-ghost use Rattle.round.specs.States.{stateOf, fresh, handedBy, afterNext, afterSheet, afterGo};
+ghost use Rattle.round.specs.States.{stateOf, fresh, afterNext, afterSheet, afterGo};
 ghost use Rattle.round.specs.Stretches.{Between, Fewest};
 ghost use Rattle.std.specs.declared.result.Result.the-variants.{Ok, Err};
 use super::state::Report;
@@ -25,7 +24,6 @@ impl<F: Counting, C: Walking> Round<F, C> {
     pub fn new(free: F, class: C) -> Round<F, C>
         ensures sets { λ r. ⌜ (r .free ≡ free) × (r .class ≡ class) ⌝ }
         ensures state { λ r. ⌜ stateOf r ≡ fresh ⌝ }
-        ensures within { λ r. ⌜ r .place ≤ suc (end (F·Walking .meant free) (C·Walking .meant class)) ⌝ }
     {
         Round {
             free,
@@ -41,8 +39,6 @@ impl<F: Counting, C: Walking> Round<F, C> {
         ensures step { λ r. let f = F·Walking .meant (now (self .entry) .free) in let c = C·Walking .meant (now (self .entry) .class) in let w = nextFrom f c (now (self .entry) .place) in ⌜ r ≡ record { bay = w .bay; stretches = w .stretches } ⌝ }
         ensures first { λ r. let f = F·Walking .meant (now (self .entry) .free) in let c = C·Walking .meant (now (self .entry) .class) in ⌜ HandedIs f c (now (self .entry) .place) (r .bay) (now (self .exit) .place) ⌝ }
         ensures fewest { λ r. let f = F·Walking .meant (now (self .entry) .free) in let c = C·Walking .meant (now (self .entry) .class) in ⌜ Fewest f c (Between (now (self .entry) .place) (now (self .exit) .place)) (r .stretches) ⌝ }
-        ensures forward { λ r. ⌜ (r .stretches + now (self .entry) .place ≤ now (self .exit) .place) × (handedBy (r .bay) ≤ r .stretches) ⌝ }
-        ensures within { λ _. let f = F·Walking .meant (now (self .entry) .free) in let c = C·Walking .meant (now (self .entry) .class) in let w = end f c in ⌜ (now (self .entry) .place ≤ suc w → now (self .exit) .place ≤ suc w) ⌝ }
         ensures state { λ _. let f = F·Walking .meant (now (self .entry) .free) in let c = C·Walking .meant (now (self .entry) .class) in ⌜ stateOf (now (self .exit)) ≡ afterNext f c (stateOf (now (self .entry))) ⌝ }
         ensures sets { λ _. ⌜ (now (self .exit) .free ≡ now (self .entry) .free) × (now (self .exit) .class ≡ now (self .entry) .class) ⌝ }
     {
@@ -69,11 +65,11 @@ impl<F: Counting, C: Walking> Round<F, C> {
     {
         let handed = self.handed;
         let stretches = self.stretches;
-        for n in 0..out.len() {
+        for slot in out.iter_mut() {
             let Some(bay) = self.next().bay else {
                 break;
             };
-            out[n] = bay;
+            *slot = bay;
         }
         Written {
             bays: self.handed - handed,

@@ -11,25 +11,13 @@ use Rattle.sets.specs.Lists.{Among, Rising, ListOf}
 use Rattle.sets.specs.Search.{countTo}
 use Rattle.sets.specs.Sets.{is, rankOf}
 use Rattle.sets.specs.Laws.{Rank-counts}
+use Rattle.sets.proofs.Joins.{any-split, any-left, any-right}
 use Rattle.sets.proofs.Tests.{count-none, count-here, count-on}
 
 -- one more at the end
 rising-more : (p q : ℕ) (xs : List ℕ) → Rising p xs → p ≤ q → ((x : ℕ) → Among xs x → x < q) → Rising p (xs ++ q ∷ [])
 rising-more p q [] r l h = (l, tt)
 rising-more p q (x ∷ xs) r l h = (r .0, rising-more (suc x) q xs (r .1) (h x (inl refl)) (λ y m. h y (inr m)))
-
-among-more : (xs : List ℕ) (q j : ℕ) → Among xs j ⊎ (j ≡ q) → Among (xs ++ q ∷ []) j
-among-more [] q j (inl m) = absurd m
-among-more [] q j (inr e) = inl e
-among-more (x ∷ xs) q j (inl (inl e)) = inl e
-among-more (x ∷ xs) q j (inl (inr m)) = inr (among-more xs q j (inl m))
-among-more (x ∷ xs) q j (inr e) = inr (among-more xs q j (inr e))
-
-among-fewer : (xs : List ℕ) (q j : ℕ) → Among (xs ++ q ∷ []) j → Among xs j ⊎ (j ≡ q)
-among-fewer [] q j (inl e) = inr e
-among-fewer [] q j (inr m) = absurd m
-among-fewer (x ∷ xs) q j (inl e) = inl (inl e)
-among-fewer (x ∷ xs) q j (inr m) = ⊎-elim (λ a. inl (inr a)) (λ b. inr b) (among-fewer xs q j m)
 
 module _ (f : ℕ → Bool) where
   abbrev pub Counted : ℕ → List ℕ → Type 0
@@ -45,8 +33,14 @@ module _ (f : ℕ → Bool) where
   counted-here : (n : ℕ) (bays : List ℕ) → f (suc n) ≡ true → Counted n bays → Counted (suc n) (bays ++ suc n ∷ [])
   counted-here n bays e l = record {
     rising = rising-more 0 (suc n) bays (l .rising) (omega arith) (λ x m. omega (arith, l .only x m .0));
-    all = λ j h. among-more bays (suc n) j (⊎-elim (λ less. inl (l .all j (omega arith, h .1))) (λ more. inr (omega (arith, h .0))) (cases-lt j (suc n)));
-    only = λ j m. ⊎-elim (λ a. let h = l .only j a in (omega (arith, h .0), h .1)) (λ same. (omega arith, ap f same ∙ e)) (among-fewer bays (suc n) j m);
+    all = λ j h. ⊎-elim
+        (λ less. any-left (λ y. j ≡ y) bays (suc n ∷ []) (l .all j (omega arith, h .1)))
+        (λ more. any-right (λ y. j ≡ y) bays (suc n ∷ []) (inl (omega (arith, h .0))))
+        (cases-lt j (suc n));
+    only = λ j m. ⊎-elim
+        (λ a. let h = l .only j a in (omega (arith, h .0), h .1))
+        (⊎-elim (λ same. (omega arith, ap f same ∙ e)) (λ none. absurd none))
+        (any-split (λ y. j ≡ y) bays (suc n ∷ []) m);
   }
 
   -- where 0 does not pass

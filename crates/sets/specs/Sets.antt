@@ -39,6 +39,9 @@ rankOf s k i = countTo (is s k) i
 unfoldable pub selectOf : List Bool → Sort → ℕ → Option ℕ
 selectOf s k n = kthTo (is s k) n (length s)
 
--- the sizes that a garage may have
+-- what the last bay of a garage may be
+abbrev pub LastBay : ℕ → Type 0
+LastBay u = (1 ≤ u) × (u ≤ 65535)
+
 abbrev pub Sized : List Bool → Type 0
-Sized s = (1 ≤ length s) × (length s ≤ 65535)
+Sized s = LastBay (length s)

@@ -147,3 +147,26 @@ fn none_and_all() -> Result<(), Fail> {
     }
     Ok(())
 }
+
+// Members 1, 64, 65 and 65,535 of 65,535 bays.
+#[test]
+fn far_apart() -> Result<(), Fail> {
+    let mut memory = [0u8; 8192];
+    memory[0] = 1;
+    memory[7] = 128;
+    memory[8] = 1;
+    memory[8191] = 64;
+    let mut index = Plain::empty();
+    check_eq(index.open(65535, &memory).is_ok(), true)?;
+    check_eq(index.next(Sort::Members, 2), Some(64))?;
+    check_eq(index.next(Sort::Members, 66), Some(65535))?;
+    check_eq(index.next(Sort::Members, 65536), None)?;
+    check_eq(index.previous(Sort::Members, 65534), Some(65))?;
+    check_eq(index.previous(Sort::Others, 65535), Some(65534))?;
+    check_eq(index.next(Sort::Others, 64), Some(66))?;
+    check_eq(index.rank(Sort::Members, 65534), 3)?;
+    check_eq(index.rank(Sort::Others, 65535), 65531)?;
+    check_eq(index.select(Sort::Members, 4), Some(65535))?;
+    check_eq(index.select(Sort::Others, 65531), Some(65534))?;
+    check_eq(index.select(Sort::Others, 65532), None)
+}

@@ -20,7 +20,7 @@ returns-then-left-n c =
     let place = c .place-in-word .ensures in
     let q = 64 * c .loop-w .w + 1 + c .place-in-word .result in
     let here = kth-in _ _ 64 _ _ q (c .word-v .ensures) (place .below) (place .hit) (omega arith) in
-    c .up-to .ensures ∙ up-kth _ _ (c .args .last) _ (omega arith) (here .0) (omega (arith, here .1, place .kth))
+    c .at-most .ensures ∙ up-kth _ _ (c .args .last) _ (omega arith) (here .0) (omega (arith, here .1, place .kth))
 
 pub loop-w-again : need.loop-w-again
 loop-w-again c =

@@ -1,45 +1,54 @@
-use mathlib.Core.Path.{_≡_, sym, ap, _∙_}
-use mathlib.Core.List.{[], _∷_, _++_}
+use mathlib.Core.Path.{_≡_, sym, ap, subst, _∙_}
+use lib.ListN.{length, set}
+use Prim.Native.Nat.{_+_}
 use native.Mathlib.Omega.{arith}
-use Rattle.std.specs.Of.Vec.{vec-items}
-use Rattle.round.specs.declared.state.Report.{Report}
+use Rattle.std.specs.Options.{isSome}
 use Rattle.round.specs.declared.state.Taken.{Taken}
-use Rattle.round.specs.Machine.{nextFrom}
 use Rattle.round.specs.States.{stateOf, afterNext}
-use Rattle.listing.proofs.Playing.{glued, takes, rest, moves-on, glued-more, glued-none}
+use Rattle.listing.proofs.Playing.{takes, Going, Done, going-more, done-none, done-full}
 use Rattle.listing.proofs.rows.take_rows.Needs as need
 
-pub loop-rows-again : need.loop-rows-again
-loop-rows-again g c =
+pub returns-then-is-none : need.returns-then-is-none
+returns-then-is-none g c =
     let r = c .args .round .now in
     let f = g .F·Walking .meant (r .free) in
     let k = g .C·Walking .meant (r .class) in
-    let here = c .loop-rows .round in
-    let inv = c .loop-rows .inv in
+    let here = stateOf (c .loop-n .round) in
+    let n = c .loop-n .n in
+    let inv = c .loop-n .inv in
     let got = c .next-taken .ensures in
-    let step : c .next-taken .result ≡ takes f k (stateOf here) = got .step ∙ (λ i. takes (g .F·Walking .meant (inv .0 i)) (g .C·Walking .meant (inv .1 i)) (stateOf here)) in
-    let state : stateOf (c .next-taken .last .self) ≡ afterNext f k (stateOf here) = got .state ∙ (λ i. afterNext (g .F·Walking .meant (inv .0 i)) (g .C·Walking .meant (inv .1 i)) (stateOf here)) in
-    let e = sym (ap (λ (t : Taken). t .bay) step) ∙ c .in-Some .is in
-    let on = moves-on f k (stateOf here) _ e in
-    let place : c .next-taken .last .self .place ≡ nextFrom f k (here .place) .place = ap (λ (s : Report). s .place) state in
-    let items = c .in-Continue-push .ensures tt .items ∙ ap (λ (t : Taken). vec-items (c .loop-rows .rows) ++ t ∷ []) step in (
+    let step : c .next-taken .result ≡ takes f k here = got .step ∙ (λ i. takes (g .F·Walking .meant (inv .0 i)) (g .C·Walking .meant (inv .1 i)) here) in
+    let state = got .state ∙ (λ i. afterNext (g .F·Walking .meant (inv .0 i)) (g .C·Walking .meant (inv .1 i)) here) in
+    let none = sym (ap (λ (t : Taken). isSome (t .bay)) step) ∙ c .if-is-none .ensures tt in
+    let d = done-none f k (stateOf r) (c .args .rows .now) n here (c .loop-n .rows) (omega arith) none (inv .2) in
+    record { answer = d .counts; writes = ap (set (c .loop-n .rows) n) step ∙ d .writes; state = state ∙ d .state }
+
+pub loop-n-again : need.loop-n-again
+loop-n-again g c =
+    let r = c .args .round .now in
+    let f = g .F·Walking .meant (r .free) in
+    let k = g .C·Walking .meant (r .class) in
+    let here = stateOf (c .loop-n .round) in
+    let n = c .loop-n .n in
+    let inv = c .loop-n .inv in
+    let got = c .next-taken .ensures in
+    let step : c .next-taken .result ≡ takes f k here = got .step ∙ (λ i. takes (g .F·Walking .meant (inv .0 i)) (g .C·Walking .meant (inv .1 i)) here) in
+    let state = got .state ∙ (λ i. afterNext (g .F·Walking .meant (inv .0 i)) (g .C·Walking .meant (inv .1 i)) here) in
+    let some = sym (ap (λ (t : Taken). isSome (t .bay)) step) ∙ c .if-is-none .ensures tt in
+    let on = going-more f k (stateOf r) (c .args .rows .now) n here (c .loop-n .rows) (omega arith) some (inv .2) in (
       got .sets .0 ∙ inv .0,
       got .sets .1 ∙ inv .1,
-      omega (arith, on .1),
-      glued-more f k (vec-items (c .loop-rows .rows)) (stateOf here) _ _ (inv .2) e (inv .3) ∙ (λ i. glued (sym items i) (rest f k (sym state i))),
+      subst (λ x. Going f k (stateOf r) (c .args .rows .now) (n + 1) x (set (c .loop-n .rows) n (c .next-taken .result))) (sym state)
+      (subst (λ (t : Taken). Going f k (stateOf r) (c .args .rows .now) (n + 1) (afterNext f k here) (set (c .loop-n .rows) n t)) (sym step) on),
     )
 
-pub returns-in-rest : need.returns-in-rest
-unfolding rest
-returns-in-rest g c =
+pub returns : need.returns
+returns g c =
     let r = c .args .round .now in
     let f = g .F·Walking .meant (r .free) in
     let k = g .C·Walking .meant (r .class) in
-    let here = c .loop-rows .round in
-    let inv = c .loop-rows .inv in
-    let got = c .next-taken .ensures in
-    let step : c .next-taken .result ≡ takes f k (stateOf here) = got .step ∙ (λ i. takes (g .F·Walking .meant (inv .0 i)) (g .C·Walking .meant (inv .1 i)) (stateOf here)) in
-    let state : stateOf (c .next-taken .last .self) ≡ afterNext f k (stateOf here) = got .state ∙ (λ i. afterNext (g .F·Walking .meant (inv .0 i)) (g .C·Walking .meant (inv .1 i)) (stateOf here)) in
-    let e = sym (ap (λ (t : Taken). t .bay) step) ∙ c .in-rest .is in
-    let items = c .in-Continue-push .ensures tt .items ∙ ap (λ (t : Taken). vec-items (c .loop-rows .rows) ++ t ∷ []) step in
-    glued-none f k (vec-items (c .loop-rows .rows)) (stateOf here) _ (inv .2) e (inv .3) ∙ (λ i. record { rows = sym items i; report = sym state i })
+    let inv = c .loop-n .inv in
+    let n = c .loop-n .n in
+    let all : n ≡ length (c .args .rows .now) = omega (arith, inv .2 .size) in
+    let d = done-full f k (stateOf r) (c .args .rows .now) n (stateOf (c .loop-n .round)) (c .loop-n .rows) all (inv .2) in
+    record { answer = inv .2 .size ∙ sym all ∙ d .counts; writes = d .writes; state = d .state }
