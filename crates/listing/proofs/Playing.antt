@@ -2,10 +2,10 @@
 use mathlib.Core.Path.{_≡_, refl, sym, ap, _∙_}
 use mathlib.Core.List.{List, [], _∷_, _++_, append-assoc}
 use mathlib.Core.Bool.{Bool, true, false}
-use Prim.Native.Nat.{ℕ, zero, suc, _+_, _-_, _≤_, _<_}
+use Prim.Native.Nat.{ℕ, suc, _+_, _-_, _≤_, _<_}
 use native.Mathlib.Numerals.{add-one}
 use native.Mathlib.Omega.{arith}
-use lib.ListN.{length, set, take, drop, length-set, length-take, length-append, take-append-drop}
+use lib.ListN.{length, set, take, drop, length-set, length-take, take-append-drop}
 use lib.Seq.{drop-drop, take-suc-set}
 use Rattle.std.proofs.shelf.Lists.{drop-set-lt, append-nil}
 use Rattle.std.specs.Options.{isSome}
@@ -19,7 +19,7 @@ use Rattle.round.specs.States.{afterNext}
 use Rattle.listing.specs.Listings.{Whole, before, onward, play}
 
 -- rows that were taken before those of r
-abbrev pub glued : List Taken → Whole → Whole
+abbrev glued : List Taken → Whole → Whole
 glued rows r = record { rows = rows ++ r .rows; report = r .report }
 
 onward-some : (o : Option ℕ) (s : Report) (r : Whole) → isSome o ≡ true → onward o s r ≡ r

@@ -30,7 +30,11 @@ fn take_rows<F: Counting, C: Walking>(round: &mut Round<F, C>, rows: &mut [Taken
 
 /// Writes the rows of a fresh round over the two sets, from the front of `rows` on, and closes it. A row for each bay and one
 /// more are room enough for the whole round.
-pub fn list_round<F: Counting + Drop, C: Walking + Drop>(free: F, class: C, rows: &mut [Taken]) -> Listed
+pub fn list_round<F: Counting + Drop, C: Walking + Drop>(
+    free: F,
+    class: C,
+    rows: &mut [Taken],
+) -> Listed
     ensures answer { λ r. let f = F·Walking .meant free in let c = C·Walking .meant class in let p = play f c (length (now (rows .entry))) fresh in ⌜ r ≡ record { rows = length (p .rows); report = p .report } ⌝ }
     ensures writes { λ _. let f = F·Walking .meant free in let c = C·Walking .meant class in let p = play f c (length (now (rows .entry))) fresh in ⌜ now (rows .exit) ≡ over (p .rows) (now (rows .entry)) ⌝ }
     ensures all { λ r. let f = F·Walking .meant free in let c = C·Walking .meant class in ⌜ (suc (end f c) ≤ length (now (rows .entry)) → Complete f c (record { rows = take (r .rows) (now (rows .exit)); report = r .report })) ⌝ }

@@ -1,2 +1,3 @@
+-- The definitions of this crate.
 pub mod Decoding
 pub mod Opening

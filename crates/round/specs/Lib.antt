@@ -1,3 +1,4 @@
+-- The definitions of this crate.
 pub mod Standing
 pub mod Machine
 pub mod Stretches

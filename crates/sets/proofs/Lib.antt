@@ -1,3 +1,4 @@
+-- The lemmas of this crate.
 pub mod Tests
 pub mod Bays
 pub mod Lawful

@@ -1,3 +1,4 @@
+-- The definitions of this crate.
 pub mod Search
 pub mod Lists
 pub mod Sets

@@ -52,6 +52,7 @@ fn lengths() -> Result<(), Fail> {
         (1, 0, length),
         (1, 1, Ok(())),
         (1, 2, length),
+        (8, 0, length),
         (8, 1, Ok(())),
         (8, 2, length),
         (9, 1, length),
@@ -86,20 +87,38 @@ fn open_bit(last: u32, bit: u32, due: Result<(), Fault>) -> Result<(), Fail> {
     }
 }
 
-#[test]
-fn spare_bits() -> Result<(), Fail> {
-    for last in 1..=16u32 {
-        let bits = if last <= 8 { 8 } else { 16 };
-        for bit in 0..bits {
-            let due = if bit < last {
-                Ok(())
-            } else {
-                refused(Flaw::Content, 1)
-            };
-            open_bit(last, bit, due)?;
-        }
+// Each bit of the bytes, alone: up to the last it is a bay, after it a flaw.
+fn open_each_bit(last: u32) -> Result<(), Fail> {
+    let bits = if last <= 8 { 8 } else { 16 };
+    for bit in 0..bits {
+        let due = if bit < last {
+            Ok(())
+        } else {
+            refused(Flaw::Content, 1)
+        };
+        open_bit(last, bit, due)?;
     }
     Ok(())
+}
+
+#[test]
+fn spare_bits() -> Result<(), Fail> {
+    for last in 1..=16 {
+        open_each_bit(last)?;
+    }
+    Ok(())
+}
+
+#[test]
+fn spare_bit_of_the_largest() -> Result<(), Fail> {
+    let mut memory = [255u8; 8192];
+    let mut index = Plain::empty();
+    check_eq(index.open(65535, &memory), refused(Flaw::Content, 1))?;
+    check_eq(index.last(), 1)?;
+    memory[8191] = 127;
+    let mut full = Plain::empty();
+    check_eq(full.open(65535, &memory), Ok(()))?;
+    check(full.holds(65535) && !full.holds(65536))
 }
 
 #[test]

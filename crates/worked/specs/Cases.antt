@@ -80,9 +80,9 @@ cases =
     ∷ nearest free charging 5 (Some 3)
     ∷ nearest sides sides 6 (Some 4)
     ∷ lists free charging (record {
-        rows = row (Some 2) 2 ∷ row (Some 9) 4 ∷ row (Some 10) 1 ∷ row None 2 ∷ [];
-        report = at 3 9 17;
-      })
+      rows = row (Some 2) 2 ∷ row (Some 9) 4 ∷ row (Some 10) 1 ∷ row None 2 ∷ [];
+      report = at 3 9 17;
+    })
     ∷ goes free charging fresh 9 0 (at 0 0 9)
     ∷ takes free charging (at 0 0 9) (row (Some 9) 1) (at 1 1 10)
     ∷ goes free charging (at 1 1 10) 9 10 (at 1 1 10)

@@ -1,3 +1,4 @@
+-- What is left to show of `laws_hold`.
 use Rattle.sets.proofs.Lawful.{sorts-part, next-smallest, previous-largest, select-ranks}
 use Rattle.sets.proofs.Only.{laws-decide}
 use Rattle.sets.proofs.Ranks.{rank-counts}

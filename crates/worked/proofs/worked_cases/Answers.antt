@@ -1,3 +1,4 @@
+-- What is left to show of `worked_cases`.
 use mathlib.Core.Path.{refl}
 use Rattle.bits.specs.Bits.{bitAt}
 use Rattle.sets.specs.Search.{firstFrom, lastTo, countTo, kthTo}

@@ -1,3 +1,4 @@
+-- What is left to show of `check`.
 use mathlib.Core.Path.{_≡_, refl, sym, subst}
 use mathlib.Core.Logic.{inr, ⊎-elim}
 use mathlib.Core.Bool.{true}

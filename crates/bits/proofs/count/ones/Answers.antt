@@ -1,3 +1,4 @@
+-- What is left to show of `ones`.
 use mathlib.Core.Path.{_≡_, sym, ap}
 use Prim.Native.Nat.{ℕ, _+_, _-_, _/_, _%_, _*_, _^_}
 use native.Mathlib.Omega.{arith}

@@ -1,3 +1,4 @@
+-- What the loop of `ones` keeps.
 use mathlib.Core.Path.{_≡_}
 use Prim.Native.Nat.{_*_}
 use Rattle.sets.specs.Search.{countTo}

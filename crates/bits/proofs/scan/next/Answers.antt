@@ -1,3 +1,4 @@
+-- What is left to show of `next`.
 use borrow.Author.Needs.{needs}
 use mathlib.Core.Path.{refl, _∙_}
 use Prim.Native.Nat.{_+_, _-_, _*_, _/_, _%_, _^_}

@@ -1,3 +1,4 @@
+-- What the loop of `next` keeps.
 use Prim.Native.Nat.{_-_, _*_}
 use Rattle.bits.specs.Bits.{isBit}
 use Rattle.bits.proofs.Held.{Without}

@@ -1,3 +1,4 @@
+-- What is left to show of `previous`.
 use borrow.Author.Needs.{needs}
 use mathlib.Core.Bool.{Bool}
 use Prim.Native.Nat.{ℕ, _+_, _-_, _/_, _%_, _*_, _^_}

@@ -1,3 +1,4 @@
+-- What the loop of `previous` keeps.
 use Prim.Native.Nat.{_≤_}
 use Rattle.bits.specs.Bits.{isBit}
 use Rattle.bits.proofs.Held.{Without}

@@ -1,3 +1,4 @@
+-- What is left to show of `get`.
 use mathlib.Core.Path.{refl}
 use Rattle.bits.specs.Bits.{bitAt}
 use Rattle.bits.proofs.words.get.Needs as need

@@ -1,3 +1,4 @@
+-- What the loop of `last_word` keeps.
 use Prim.Native.Nat.{_-_, _*_, _≤_}
 use lib.ListN.{length}
 use Rattle.bits.specs.Bits.{bitAt}

@@ -1,3 +1,4 @@
+-- What is left to show of `whole_word`.
 use mathlib.Core.Path.{ap}
 use Prim.Native.Nat.{ℕ}
 use native.Mathlib.Nat.{add-zero}

@@ -1,3 +1,4 @@
+-- What is left to show of `word`.
 use borrow.Author.Needs.{needs}
 use mathlib.Core.Path.{sym, subst}
 use Prim.Native.Nat.{_*_, _-_}

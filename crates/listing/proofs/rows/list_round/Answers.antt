@@ -1,10 +1,10 @@
-use mathlib.Core.Path.{_≡_, ap, _∙_}
-use mathlib.Core.List.{_++_}
+-- What is left to show of `list_round`.
+use mathlib.Core.Path.{_≡_, _∙_}
 use lib.ListN.{length, take, drop}
 use lib.Seq.{take-append-seam}
 use Rattle.round.specs.Sheets.{over}
 use Rattle.round.specs.States.{stateOf, fresh}
-use Rattle.listing.specs.Listings.{Whole, play}
+use Rattle.listing.specs.Listings.{play}
 use Rattle.listing.proofs.Completing.{complete}
 use Rattle.listing.proofs.rows.list_round.Needs as need
 
@@ -22,7 +22,7 @@ returns g c =
     let writes : c .take-rows-written .last .rows ≡ over (whole .rows) memory = got .writes ∙ (λ i. over (same i .rows) memory) in
     let report : c .close .result ≡ whole .report = c .close .ensures ∙ got .state ∙ (λ i. same i .report) in
     let front : take (c .take-rows-written .result) (c .take-rows-written .last .rows) ≡ whole .rows =
-        (λ i. take (counts i) (writes i)) ∙ take-append-seam (whole .rows) (drop (length (whole .rows)) memory) in
+    (λ i. take (counts i) (writes i)) ∙ take-append-seam (whole .rows) (drop (length (whole .rows)) memory) in
     record {
       answer = λ i. record { rows = counts i; report = report i };
       writes = writes;

@@ -1,3 +1,4 @@
+-- What is left to show of `take_rows`.
 use mathlib.Core.Path.{_≡_, sym, ap, subst, _∙_}
 use lib.ListN.{length, set}
 use Prim.Native.Nat.{_+_}
@@ -5,7 +6,7 @@ use native.Mathlib.Omega.{arith}
 use Rattle.std.specs.Options.{isSome}
 use Rattle.round.specs.declared.state.Taken.{Taken}
 use Rattle.round.specs.States.{stateOf, afterNext}
-use Rattle.listing.proofs.Playing.{takes, Going, Done, going-more, done-none, done-full}
+use Rattle.listing.proofs.Playing.{takes, Going, going-more, done-none, done-full}
 use Rattle.listing.proofs.rows.take_rows.Needs as need
 
 pub returns-then-is-none : need.returns-then-is-none
@@ -39,7 +40,7 @@ loop-n-again g c =
       got .sets .0 ∙ inv .0,
       got .sets .1 ∙ inv .1,
       subst (λ x. Going f k (stateOf r) (c .args .rows .now) (n + 1) x (set (c .loop-n .rows) n (c .next-taken .result))) (sym state)
-      (subst (λ (t : Taken). Going f k (stateOf r) (c .args .rows .now) (n + 1) (afterNext f k here) (set (c .loop-n .rows) n t)) (sym step) on),
+          (subst (λ (t : Taken). Going f k (stateOf r) (c .args .rows .now) (n + 1) (afterNext f k here) (set (c .loop-n .rows) n t)) (sym step) on),
     )
 
 pub returns : need.returns

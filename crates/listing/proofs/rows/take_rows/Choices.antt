@@ -1,3 +1,4 @@
+-- What the loop of `take_rows` keeps.
 use mathlib.Core.Path.{_≡_}
 use Rattle.round.specs.States.{stateOf}
 use Rattle.listing.proofs.Playing.{Going}

@@ -1,3 +1,4 @@
+-- What is left to show of `PlainCounting::rank`.
 use mathlib.Core.Path.{sym, ap, _∙_}
 use Prim.Native.Nat.{_-_}
 use Rattle.sets.specs.declared.Sort.{Sort}

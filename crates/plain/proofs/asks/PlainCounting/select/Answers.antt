@@ -1,3 +1,4 @@
+-- What is left to show of `PlainCounting::select`.
 use mathlib.Core.Path.{_∙_}
 use Rattle.sets.specs.Search.{kthTo}
 use Rattle.bits.specs.Bits.{isBit}

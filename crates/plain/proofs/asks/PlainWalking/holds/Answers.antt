@@ -1,3 +1,4 @@
+-- What is left to show of `PlainWalking::holds`.
 use mathlib.Core.Path.{sym, _∙_}
 use native.Mathlib.Omega.{arith}
 use Rattle.sets.specs.declared.Sort.the-variants.{Members}

@@ -1,3 +1,4 @@
+-- What is left to show of `PlainWalking::last`.
 use mathlib.Core.Path.{sym}
 use Rattle.plain.specs.Decoding.{set-length}
 use Rattle.plain.proofs.asks.PlainWalking.last.Needs as need

@@ -1,3 +1,4 @@
+-- What is left to show of `PlainWalking::next`.
 use mathlib.Core.Path.{_∙_}
 use Prim.Native.Nat.{suc, _-_}
 use Rattle.sets.specs.Search.{firstFrom}

@@ -1,3 +1,4 @@
+-- What is left to show of `PlainWalking::previous`.
 use mathlib.Core.Path.{_∙_}
 use Rattle.sets.specs.Search.{lastTo}
 use Rattle.bits.specs.Bits.{isBit}

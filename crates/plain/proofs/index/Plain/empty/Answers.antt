@@ -1,3 +1,4 @@
+-- What is left to show of `Plain::empty`.
 use mathlib.Core.Path.{refl}
 use native.Mathlib.Omega.{arith}
 use Rattle.bits.specs.Bits.{bitAt}

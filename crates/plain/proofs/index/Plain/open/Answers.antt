@@ -1,3 +1,4 @@
+-- What is left to show of `Plain::open`.
 use borrow.Author.Needs.{needs}
 use Rattle.plain.proofs.Decoded.{decodes}
 use Rattle.plain.proofs.index.Plain.open.Needs as need

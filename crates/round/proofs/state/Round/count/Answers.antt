@@ -1,3 +1,4 @@
+-- What is left to show of `Round::count`.
 use mathlib.Core.Path.{_≡_}
 use Prim.Native.Nat.{_-_, _≤_}
 use native.Mathlib.Omega.{arith}

@@ -1,3 +1,4 @@
+-- What is left to show of `Round::go`.
 use borrow.Author.Needs.{needs}
 use mathlib.Core.Path.{refl}
 use Rattle.round.proofs.Rounds.{rebuilt}

@@ -1,3 +1,4 @@
+-- What is left to show of `Round::nearest`.
 use mathlib.Core.Path.{_≡_, sym, subst, _∙_}
 use Prim.Native.Nat.{_≤_}
 use native.Mathlib.Omega.{arith}

@@ -1,3 +1,4 @@
+-- What is left to show of `Round::pick`.
 use mathlib.Core.Path.{sym, ap, _∙_}
 use native.Mathlib.Omega.{arith}
 use Rattle.round.specs.Calls.{picked, upTo}

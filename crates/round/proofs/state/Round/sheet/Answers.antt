@@ -1,3 +1,4 @@
+-- What is left to show of `Round::sheet`.
 use mathlib.Core.Path.{_≡_, sym, ap, subst, _∙_}
 use native.Mathlib.Omega.{arith}
 use lib.Seq.{set-getD}
@@ -33,21 +34,23 @@ returns g c =
     let inv = c .loop-slot .inv in
     let at-end = c .loop-slot-test in
     let ends : Done f k (stateOf r) (c .args .out .now) (stateOf (at-end .self)) (at-end .out) × (at-end .self .free ≡ r .free) × (at-end .self .class ≡ r .class) =
-        elim (c .loop-slot-test .came) [
-          else-loop-slot-test w ↦ (
-            (let d = done-full f k (stateOf r) (c .args .out .now) n (stateOf here) (c .loop-slot .out) (omega (arith, inv .2 .size)) (inv .2) in
+    elim (c .loop-slot-test .came) [
+      | else-loop-slot-test w ↦ (
+        (let d = done-full f k (stateOf r) (c .args .out .now) n (stateOf here) (c .loop-slot .out) (omega (arith, inv .2 .size)) (inv .2) in
             subst (λ x. Done f k (stateOf r) (c .args .out .now) (stateOf x) (at-end .out)) (sym (w .self-is)) (subst (Done f k (stateOf r) (c .args .out .now) (stateOf here)) (sym (w .out-is)) d)),
-            ap (λ x. x .free) (w .self-is) ∙ inv .0,
-            ap (λ x. x .class) (w .self-is) ∙ inv .1)
-        | then-loop-slot-test·in-rest w ↦ (
-            (let got = w .next .ensures in
+        ap (λ x. x .free) (w .self-is) ∙ inv .0,
+        ap (λ x. x .class) (w .self-is) ∙ inv .1,
+      )
+      | then-loop-slot-test·in-rest w ↦ (
+        (let got = w .next .ensures in
             let e = sym (w .in-rest .is) ∙ ap (λ t. t .bay) (got .step) ∙ (λ i. nextFrom (g .F·Walking .meant (inv .0 i)) (g .C·Walking .meant (inv .1 i)) (here .place) .bay) in
             let s = got .state ∙ (λ i. afterNext (g .F·Walking .meant (inv .0 i)) (g .C·Walking .meant (inv .1 i)) (stateOf here)) in
             let d = done-none f k (stateOf r) (c .args .out .now) n (stateOf here) (stateOf (w .next .last .self)) (c .loop-slot .out) (omega (arith, w .loop-slot-test .taken)) e s (inv .2) in
             subst (λ x. Done f k (stateOf r) (c .args .out .now) (stateOf x) (at-end .out)) (sym (w .self-is)) (subst (Done f k (stateOf r) (c .args .out .now) (stateOf (w .next .last .self))) (sym (w .out-is ∙ set-getD (c .loop-slot .out) n 0)) d)),
-            ap (λ x. x .free) (w .self-is) ∙ w .next .ensures .sets .0 ∙ inv .0,
-            ap (λ x. x .class) (w .self-is) ∙ w .next .ensures .sets .1 ∙ inv .1)
-        ] in
+        ap (λ x. x .free) (w .self-is) ∙ w .next .ensures .sets .0 ∙ inv .0,
+        ap (λ x. x .class) (w .self-is) ∙ w .next .ensures .sets .1 ∙ inv .1,
+      )
+    ] in
     let d = ends .0 in
     record {
       answer = λ i. record { bays = d .counts i; stretches = d .takes i };

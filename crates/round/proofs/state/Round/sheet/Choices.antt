@@ -1,3 +1,4 @@
+-- What the loop of `Round::sheet` keeps.
 use mathlib.Core.Path.{_≡_}
 use Rattle.round.specs.States.{stateOf}
 use Rattle.round.proofs.Sheeting.{Going}
