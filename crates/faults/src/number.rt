@@ -8,6 +8,7 @@ use super::fault::Form;
 use super::fault::Refusal;
 
 impl Flaw {
+    /// The number by which the flaw is refused, 1 to 6.
     pub fn number(self) -> u8
         ensures { λ r. ⌜ r ≡ flawNumber self ⌝ }
     {
@@ -23,6 +24,7 @@ impl Flaw {
 }
 
 impl Refusal {
+    /// The number of the refusal, 7 to 11.
     pub fn number(self) -> u8
         ensures { λ r. ⌜ r ≡ refusalNumber self ⌝ }
     {
@@ -52,6 +54,7 @@ pub trait Located: Sized {
     // What the check answered.
     ghost answered: { Self → Check };
 
+    /// The flaw, if there was one, as a fault of that part of that form.
     fn at(self, form: Form, part: u8) -> Result<(), Fault>
         ensures { λ r. ⌜ r ≡ located form part (answered self) ⌝ };
 }

@@ -23,7 +23,7 @@ GoIs w p q (Ok _) = (1 ≤ q) × (q ≤ suc w) × (p ≤ q)
 GoIs w p q (Err e) =
     RefusedBy 7 e (q ≡ 0) ⊎ (RefusedBy 9 e (suc w < q) ⊎ RefusedBy 10 e ((1 ≤ q) × (q ≤ suc w) × (q < p)))
 
--- as many as are in a list of all members from a to b
+-- as many members from a to b as are in a list of them all
 abbrev pub CountIs : List Bool → ℕ → ℕ → ℕ → Result ℕ Refusal → Type 0
 CountIs f w a b (Ok n) =
     (1 ≤ a) × (a ≤ b) × (b ≤ w)
@@ -57,7 +57,7 @@ abbrev pub SignIs : List Bool → ℕ → ℕ → Result (Option ℕ) Refusal �
 SignIs f w s (Ok r) = Sign s × (getD posts (s - 1) 0 ≤ w) × Nearest f w (getD posts (s - 1) 0) r
 SignIs f w s (Err e) = RefusedBy 8 e (Sign s → ⊥) ⊎ RefusedBy 9 e (Sign s × (w < getD posts (s - 1) 0))
 
--- the member up to w up to which there are k
+-- the member, up to w, up to and with which there are k members
 abbrev pub PickIs : List Bool → ℕ → ℕ → Result ℕ Refusal → Type 0
 PickIs f w k (Ok q) = (q ≤ w) × (isMember f q ≡ true) × (rankOf f Members q ≡ k)
 PickIs f w k (Err e) = RefusedBy 7 e (k ≡ 0) ⊎ RefusedBy 11 e ((1 ≤ k) × (rankOf f Members w < k))

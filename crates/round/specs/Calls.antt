@@ -26,7 +26,7 @@ membersIn f a b = countTo (λ j. leb a j && isMember f j) b
 abbrev pub countIn : List Bool → ℕ → ℕ → ℕ → Result ℕ Refusal
 countIn f w a b = cond (leb 1 a && leb a b) (cond (leb b w) (Ok (membersIn f a b)) (Err Beyond)) (Err NoBay)
 
--- a bay up to w
+-- the bay if it is up to w, and else none
 abbrev pub upTo : ℕ → Option ℕ → Option ℕ
 upTo w None = None
 upTo w (Some q) = cond (leb q w) (Some q) None
