@@ -6,7 +6,7 @@ use super::bit::Bit;
 use super::scan::next;
 use faults::Flaw;
 
-/// The bytes are a bitvector of `n` bits: exactly as many as those take, and each bit after the last is 0.
+/// Checks that the bytes are a bitvector of `n` bits: exactly as many as those take, and each bit after the last is 0.
 pub fn check(bytes: &[u8], n: u32) -> Result<(), Flaw>
     requires small { ⌜ n ≤ 131072 ⌝ }
     ensures answer { λ r. ⌜ r ≡ bitsCheck n (now (bytes .entry)) ⌝ }

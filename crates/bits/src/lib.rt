@@ -1,5 +1,6 @@
 // Bitvectors in bytes: one bit, the next and the previous bit of a kind, how many ones, the k-th bit of a kind, and the check of
-// the bytes. These are leaves for the forms of an index: they ask for bit numbers within the bytes, and for at most 16,384 bytes.
+// the bytes. These are leaves for the forms of an index: they ask for bit numbers within the bytes, and for at most
+// 16,384 bytes, or 131,072 bits.
 ghost use mathlib.Core.Path.{_≡_};
 ghost use Rattle.bits.specs.Bits.{bitFor};
 use sets::Sort;

@@ -38,7 +38,7 @@ pub enum Refusal {
     NoBay,
     /// There is no such sign.
     NoSign,
-    /// A bay or a place is beyond the last.
+    /// A bay or a sign's post is beyond the last bay, or a place beyond the one behind it.
     Beyond,
     /// The place lies behind the present one.
     Behind,

@@ -38,7 +38,7 @@ impl Refusal {
     }
 }
 
-/// The last bay lies from 1 to 65,535.
+/// Checks that the last bay lies from 1 to 65,535.
 pub fn check_last(last: u32) -> Result<(), Flaw>
     ensures answer { λ r. ⌜ r ≡ lastCheck last ⌝ }
     ensures law { λ r. ⌜ LastIs last r ⌝ }

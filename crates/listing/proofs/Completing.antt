@@ -20,7 +20,7 @@ use Rattle.round.specs.Stretches.{Between, Fewest}
 use Rattle.round.proofs.Handing.{next-handed}
 use Rattle.round.proofs.Made.{Made, made-join, made-listed, made-fewest}
 use Rattle.round.proofs.Taking.{bayOf, next-made}
-use Rattle.listing.specs.Listings.{Whole, before, onward, play, baysOf, Complete}
+use Rattle.listing.specs.Listings.{Listing, before, onward, play, baysOf, Complete}
 use Rattle.listing.proofs.Playing.{play-step}
 
 module _ (f c : List Bool) where
@@ -30,7 +30,7 @@ module _ (f c : List Bool) where
   on-by p place (Some b) q e is = (omega (arith, is .0, is .4), omega (arith, is .1, is .4))
 
   -- a round that stood at s was walked to its end
-  record Played (s : Report) (r : Whole) : Type 0 where
+  record Played (s : Report) (r : Listing) : Type 0 where
     pub stretches : ℕ
     pub way : Made f c (s .place) (r .report .place) (baysOf (r .rows)) stretches
     pub taken : r .report .stretches ≡ s .stretches + stretches
@@ -47,7 +47,7 @@ module _ (f c : List Bool) where
       × (afterNext f c s .handed ≡ s .handed + handedBy o)
       × HandedIs f c (s .place) o (nextFrom f c (s .place) .place)
 
-  played-step : (s : Report) (r : Whole) (o : Option ℕ) → s .place ≤ suc (end f c) → Stepped s o → ((q : ℕ) → o ≡ Some q → Played (afterNext f c s) r) → Played s (before (row s o) (onward o (afterNext f c s) r))
+  played-step : (s : Report) (r : Listing) (o : Option ℕ) → s .place ≤ suc (end f c) → Stepped s o → ((q : ℕ) → o ≡ Some q → Played (afterNext f c s) r) → Played s (before (row s o) (onward o (afterNext f c s) r))
   played-step s r None top one on = record {
     stretches = nextFrom f c (s .place) .stretches;
     way = one .0;
@@ -83,7 +83,7 @@ module _ (f c : List Bool) where
       let in-class = is-bay c Members j (both .1) in
       (in-free .0, omega (arith, in-free .1, in-class .1))
 
-  pub complete : (m : ℕ) (r : Whole) → suc (end f c) ≤ m → r ≡ play f c m fresh → Complete f c r
+  pub complete : (m : ℕ) (r : Listing) → suc (end f c) ≤ m → r ≡ play f c m fresh → Complete f c r
   complete m r room e =
       let p = subst (Played fresh) (sym e) (play-played m fresh (omega arith) (omega arith) (omega arith)) in
       let list = made-listed f c 1 (r .report .place) (baysOf (r .rows)) (p .stretches) (p .way) in

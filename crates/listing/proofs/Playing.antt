@@ -16,17 +16,17 @@ use Rattle.round.specs.declared.state.Taken.{Taken}
 use Rattle.round.specs.Machine.{nextFrom}
 use Rattle.round.specs.Sheets.{over}
 use Rattle.round.specs.States.{afterNext}
-use Rattle.listing.specs.Listings.{Whole, before, onward, play}
+use Rattle.listing.specs.Listings.{Listing, before, onward, play}
 
 -- rows that were taken before those of r
-abbrev glued : List Taken → Whole → Whole
+abbrev glued : List Taken → Listing → Listing
 glued rows r = record { rows = rows ++ r .rows; report = r .report }
 
-onward-some : (o : Option ℕ) (s : Report) (r : Whole) → isSome o ≡ true → onward o s r ≡ r
+onward-some : (o : Option ℕ) (s : Report) (r : Listing) → isSome o ≡ true → onward o s r ≡ r
 onward-some None s r e = absurd (let z : _≡_ {A = ℕ} 0 1 = cc in omega arith)
 onward-some (Some q) s r e = refl
 
-onward-none : (o : Option ℕ) (s : Report) (r : Whole) → isSome o ≡ false → onward o s r ≡ record { rows = []; report = s }
+onward-none : (o : Option ℕ) (s : Report) (r : Listing) → isSome o ≡ false → onward o s r ≡ record { rows = []; report = s }
 onward-none None s r e = refl
 onward-none (Some q) s r e = absurd (let z : _≡_ {A = ℕ} 0 1 = cc in omega arith)
 
@@ -58,12 +58,12 @@ module _ (f c : List Bool) where
     done : (n : ℕ) (s : Report) (rows : List Taken) → n ≤ length rows → drop n rows ≡ drop n rows₀ → play f c (length rows₀) s₀ ≡ record { rows = take n rows; report = s } → Done s₀ rows₀ n s rows
     done n s rows h kept all =
         let whole = play f c (length rows₀) s₀ in
-        let are : whole .rows ≡ take n rows = ap (λ (r : Whole). r .rows) all in
+        let are : whole .rows ≡ take n rows = ap (λ (r : Listing). r .rows) all in
         let long : length (whole .rows) ≡ n = ap length are ∙ length-take n rows ∙ omega arith in
         record {
           counts = sym long;
           writes = sym (take-append-drop n rows) ∙ ap (λ (ts : List Taken). take n rows ++ ts) kept ∙ (λ j. sym are j ++ drop (sym long j) rows₀);
-          state = sym (ap (λ (r : Whole). r .report) all);
+          state = sym (ap (λ (r : Listing). r .report) all);
         }
 
     -- one row more

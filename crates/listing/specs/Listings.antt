@@ -14,20 +14,20 @@ use Rattle.round.specs.States.{afterNext}
 use Rattle.round.specs.Stretches.{Between, Fewest}
 
 -- what each next gave, and the closing report
-pub record Whole : Type 0 where
+pub record Listing : Type 0 where
   pub rows : List Taken
   pub report : Report
 
-abbrev pub before : Taken → Whole → Whole
+abbrev pub before : Taken → Listing → Listing
 before t r = record { rows = t ∷ r .rows; report = r .report }
 
 -- what follows a next that leaves the state s: nothing if it gave none
-abbrev pub onward : Option ℕ → Report → Whole → Whole
+abbrev pub onward : Option ℕ → Report → Listing → Listing
 onward None s r = record { rows = []; report = s }
 onward (Some b) s r = r
 
 -- with room for m rows, from the state s on
-unfoldable pub play : List Bool → List Bool → ℕ → Report → Whole
+unfoldable pub play : List Bool → List Bool → ℕ → Report → Listing
 play f c zero s = record { rows = []; report = s }
 play f c (suc m) s =
     let w = nextFrom f c (s .place) in
@@ -42,8 +42,9 @@ abbrev pub baysOf : List Taken → List ℕ
 baysOf [] = []
 baysOf (t ∷ rows) = bayAnd (t .bay) (baysOf rows)
 
--- all common bays are handed out, each once and rising, by the fewest stretches that cut all bays, and the round ends behind the last
-pub record Complete (f c : List Bool) (r : Whole) : Type 0 where
+-- all common bays are handed out, each once and rising, by the fewest stretches that cut all bays, and the place is behind the last bay
+-- of the round
+pub record Complete (f c : List Bool) (r : Listing) : Type 0 where
   pub bays : ListOf (λ j. common f c j ≡ true) (baysOf (r .rows))
   pub handed : r .report .handed ≡ length (baysOf (r .rows))
   pub fewest : Fewest f c (Between 1 (suc (end f c))) (r .report .stretches)

@@ -1,4 +1,4 @@
-// All rows of a round over any two sets.
+// The rows of a round over any two sets.
 mod list;
 mod rows;
 

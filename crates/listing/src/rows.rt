@@ -1,4 +1,4 @@
-// A round that is walked to its end.
+// The rows of a round, as many as fit.
 ghost use mathlib.Core.Path.{_≡_};
 ghost use Prim.Native.Nat.{suc, _≤_};
 ghost use lib.ListN.{length, take};

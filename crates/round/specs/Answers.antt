@@ -23,7 +23,7 @@ GoIs w p q (Ok _) = (1 ≤ q) × (q ≤ suc w) × (p ≤ q)
 GoIs w p q (Err e) =
     RefusedBy 7 e (q ≡ 0) ⊎ (RefusedBy 9 e (suc w < q) ⊎ RefusedBy 10 e ((1 ≤ q) × (q ≤ suc w) × (q < p)))
 
--- as many members from a to b as are in a list of them all
+-- n is the length of the rising list of all members from a to b
 abbrev pub CountIs : List Bool → ℕ → ℕ → ℕ → Result ℕ Refusal → Type 0
 CountIs f w a b (Ok n) =
     (1 ≤ a) × (a ≤ b) × (b ≤ w)
@@ -44,10 +44,11 @@ abbrev pub NearestIs : List Bool → ℕ → ℕ → Result (Option ℕ) Refusal
 NearestIs f w p (Ok r) = (1 ≤ p) × (p ≤ w) × Nearest f w p r
 NearestIs f w p (Err e) = RefusedBy 7 e (p ≡ 0) ⊎ RefusedBy 9 e (w < p)
 
--- there is a sign s, and its post
+-- there is a sign s
 abbrev pub Sign : ℕ → Type 0
 Sign s = (1 ≤ s) × (s ≤ length posts)
 
+-- the post of sign s
 abbrev pub PostIs : ℕ → Result ℕ Refusal → Type 0
 PostIs s (Ok p) = Sign s × (p ≡ getD posts (s - 1) 0)
 PostIs s (Err e) = RefusedBy 8 e (Sign s → ⊥)

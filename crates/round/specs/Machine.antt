@@ -24,7 +24,7 @@ module _ (f c : List Bool) where
   unfoldable pub common : ℕ → Bool
   common p = isMember f p && isMember c p
 
-  -- the larger of the next members at p: where the stretch from p ends if p is not common
+  -- the larger of the next members at p: where p is not common, the stretch from p is the bays before it
   unfoldable pub larger : ℕ → ℕ
   larger p = max (stop (end f c) (nextOf f Members p)) (stop (end f c) (nextOf c Members p))
 

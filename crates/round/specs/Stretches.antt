@@ -14,6 +14,7 @@ pub record Row : Type 0 where
   pub first : ℕ
   pub past : ℕ
 
+-- j is p or above, and below q
 abbrev pub Between : ℕ → ℕ → ℕ → Type 0
 Between p q j = (p ≤ j) × (j < q)
 

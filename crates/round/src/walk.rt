@@ -23,7 +23,7 @@ pub(crate) fn end_of<F: Walking, C: Walking>(free: &F, class: &C) -> u32
     free.last().min(class.last())
 }
 
-// Where the stretch from `p` ends in a round that ends at `w`: the larger of the next members, none being read as w + 1.
+// The larger of the next members at `p` in a round that ends at `w`; none, or one beyond `w`, is read as w + 1.
 fn stretch_end<F: Walking, C: Walking>(free: &F, class: &C, w: u32, p: u32) -> u32
     requires { ⌜ w ≡ end (F·Walking .meant (now free)) (C·Walking .meant (now class)) ⌝ }
     ensures { λ r. ⌜ r ≡ larger (F·Walking .meant (now (free .entry))) (C·Walking .meant (now (class .entry))) p ⌝ }

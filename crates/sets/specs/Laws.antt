@@ -33,11 +33,11 @@ abbrev pub PreviousIs : List Bool → Sort → ℕ → Option ℕ → Type 0
 PreviousIs s k i None = (j : ℕ) → j ≤ i → is s k j ≡ false
 PreviousIs s k i (Some q) = (q ≤ i) × (is s k q ≡ true) × ((j : ℕ) → q < j → j ≤ i → is s k j ≡ false)
 
--- as many bays of the sort as are in a list of them all, from 1 to i
+-- n is the length of the rising list of all bays of the sort from 1 to i
 abbrev pub RankIs : List Bool → Sort → ℕ → ℕ → Type 0
 RankIs s k i n = (bays : List ℕ) × (ListOf (λ j. (j ≤ i) × (is s k j ≡ true)) bays × (length bays ≡ n))
 
--- the bay of the sort up to which there are n of the sort; none at 0 and beyond their number
+-- the bay of the sort up to and with which there are n of the sort; none at 0 and beyond their number
 abbrev pub SelectIs : List Bool → Sort → ℕ → Option ℕ → Type 0
 SelectIs s k n None = (n ≡ 0) ⊎ (rankOf s k (length s) < n)
 SelectIs s k n (Some q) = (is s k q ≡ true) × (rankOf s k q ≡ n)

@@ -114,6 +114,8 @@ fn picks<F: Counting, C: Walking>(round: &Round<F, C>) -> Result<(), Fail> {
         (1, Ok(1)),
         (7, Ok(11)),
         (8, Err(Refusal::TooFew)),
+        (16, Err(Refusal::TooFew)),
+        (17, Err(Refusal::TooFew)),
         (MOST, Err(Refusal::TooFew)),
     ];
     for (k, due) in cases {

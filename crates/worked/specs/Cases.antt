@@ -20,7 +20,7 @@ use Rattle.round.specs.Calls.{goTo, nearestAt}
 use Rattle.round.specs.Machine.{end, nextFrom}
 use Rattle.round.specs.Sheets.{Page, sheetFrom}
 use Rattle.round.specs.States.{fresh, afterNext, afterGo}
-use Rattle.listing.specs.Listings.{Whole, play}
+use Rattle.listing.specs.Listings.{Listing, play}
 use Rattle.worked.specs.Garage.{free, charging, sides}
 
 -- a question, its arguments and its answer
@@ -31,7 +31,7 @@ pub data Case : Type 0 where
   next : List Bool → Sort → ℕ → Option ℕ → Case
   previous : List Bool → Sort → ℕ → Option ℕ → Case
   nearest : List Bool → List Bool → ℕ → Option ℕ → Case
-  lists : List Bool → List Bool → Whole → Case
+  lists : List Bool → List Bool → Listing → Case
   -- go from a state to a place: the number of the refusal, 0 for none, and the state then
   goes : List Bool → List Bool → Report → ℕ → ℕ → Report → Case
   -- next from a state: what it gives, and the state then
