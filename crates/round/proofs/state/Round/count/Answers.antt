@@ -4,13 +4,13 @@ use Prim.Native.Nat.{_-_, _≤_}
 use native.Mathlib.Omega.{arith}
 use Rattle.round.specs.Calls.{membersIn}
 use Rattle.round.specs.Machine.{end}
+use Rattle.sets.specs.declared.Sort.the-variants.{Members}
+use Rattle.sets.proofs.Only.{rank-mono}
 use Rattle.round.proofs.Asking.{members-parts, counted-ok, members-listed}
 use Rattle.round.proofs.state.Round.count.Needs as need
 
 pub sub-result : need.sub-result
-sub-result g c =
-    let all = members-parts (g .F·Walking .meant (c .args .self .now .free)) (c .args .a) (c .args .b) (omega arith) (omega arith) in
-    omega (arith, c .rank .ensures, c .rank-before .ensures)
+sub-result g c = simp (c .rank-before .ensures, c .rank .ensures) (rank-mono (g .F·Walking .meant (c .args .self .now .free)) Members _ _ (omega arith))
 
 pub returns : need.returns
 returns g c =
