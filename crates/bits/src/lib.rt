@@ -1,6 +1,8 @@
 // Bitvectors in bytes: one bit, the next and the previous bit of a kind, how many ones, the k-th bit of a kind, and the checks
 // of the bytes. These are leaves for the forms of an index: they ask for bit numbers within the bytes, and for at most
 // 16,384 bytes, or 131,072 bits.
+#![tactic(auto)]
+
 ghost use Rattle.std.specs.Prelude.{◌≡◌};
 ghost use Rattle.bits.specs.Bits.{bit_for};
 

@@ -1,4 +1,6 @@
 // Prints the rows of the round through the worked garage, and its closing report.
+#![tactic(auto)]
+
 use listing::list_round;
 use opening::open_pair;
 use plain::{Plain, PlainSource};

@@ -1,4 +1,6 @@
 // Why a call refuses, and which part of which form was wrong. Every refusal has a number.
+#![tactic(auto)]
+
 mod fault;
 mod number;
 mod text;

@@ -1,4 +1,6 @@
 // Layers over a counting set, each again a counting set.
+#![tactic(auto)]
+
 mod asks;
 mod level;
 mod make;

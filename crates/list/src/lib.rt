@@ -1,4 +1,6 @@
 // The list form of an index: the members as rising numbers.
+#![tactic(auto)]
+
 mod asks;
 mod check;
 mod index;

@@ -1,4 +1,6 @@
 // The rows of a round over any two sets.
+#![tactic(auto)]
+
 mod list;
 mod rows;
 

@@ -1,4 +1,6 @@
 // Opening an index of any form, and a pair of them.
+#![tactic(auto)]
+
 mod fault;
 mod opens;
 mod pair;

@@ -1,4 +1,6 @@
 // The pioneer form of an index: a bitvector of the first bays of the runs of members, and one of the sums of their lengths.
+#![tactic(auto)]
+
 mod asks;
 mod checks;
 mod count;

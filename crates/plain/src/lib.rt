@@ -1,4 +1,6 @@
 // The plain form of an index: one bitvector with a bit for each bay.
+#![tactic(auto)]
+
 mod asks;
 mod index;
 mod open;

@@ -1,4 +1,6 @@
 // Every question of every form and layer, at each bay of many sets, by the compiled code.
+#![tactic(auto)]
+
 #[cfg(test)]
 mod asked;
 #[cfg(test)]

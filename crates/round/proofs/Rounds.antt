@@ -9,7 +9,7 @@ standing_prop : (p h n : ℕ) → IsProp (Standing p h n)
 standing_prop p h n = hlevel props
 
 -- a round does not depend on the proof of what it keeps
-pub rebuilt : {X Y : Type 0} (r : Round X Y) (o : Standing r.place r.handed r.stretches) → ◌≡◌ {A = Round X Y} (record { free = r.free; class = r.class; place = r.place; handed = r.handed; stretches = r.stretches; ok = o }) r
+pub rebuilt : {X Y : Type 0} {x : _} {y : _} (r : Round X Y x y) (o : Standing r.place r.handed r.stretches) → ◌≡◌ {A = Round X Y x y} (record { free = r.free; class = r.class; place = r.place; handed = r.handed; stretches = r.stretches; ok = o }) r
 rebuilt r o = λ i. record { free = r.free; class = r.class; place = r.place; handed = r.handed; stretches = r.stretches; ok = standing_prop r.place r.handed r.stretches o r.ok i }
 
 -- a bay that was found is handed out, and else none is

@@ -6,7 +6,7 @@ use Rattle.round.specs.declared.state.Round.{Round}
 use Rattle.round.specs.Machine.{next_from}
 use Rattle.round.specs.Sheets.{Page}
 
-abbrev pub state_of : {X Y : Type 0} → Round X Y → Report
+abbrev pub state_of : {X Y : Type 0} {x : _} {y : _} → Round X Y x y → Report
 state_of r = record { handed = r.handed; stretches = r.stretches; place = r.place }
 
 abbrev pub fresh : Report

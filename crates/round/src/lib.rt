@@ -1,4 +1,6 @@
 // A round through the common bays of two sets, by the fewest stretches.
+#![tactic(auto)]
+
 mod asks;
 mod moves;
 mod posts;

@@ -12,7 +12,7 @@ const POSTS: [u32; 16] = [
 
 /// The posts rise from at least 1. There is nothing to run: the contract is the theorem.
 pub fn posts_rise()
-    ensures* { do ⌜ Rising 1 (← (⟦POSTS⟧).entry) ⌝ }
+    ensures { Rising 1 POSTS }
 {}
 
 // The post of a sign.

@@ -1,4 +1,6 @@
 // What a set of parking bays is, and the two interfaces by which one is asked.
+#![tactic(auto)]
+
 ghost use Rattle.std.specs.Prelude.{◌≡◌, Bool, List, length};
 ghost use Rattle.sets.specs.Laws.{SortsPart, NextSmallest, PreviousLargest, RankCounts, SelectRanks, LawsDecide, SetsByMembers};
 ghost use Rattle.sets.specs.Sets.{is_member, next_of, previous_of, rank_of, select_of, Sized};
@@ -41,11 +43,11 @@ pub trait Walking {
 pub trait Counting: Walking {
     /// How many bays of the sort lie from 1 to `i`; beyond the last bay is read as the last.
     fn rank(&self, sort: Sort, i: u32) -> u32
-        ensures { result ≡ rank_of (meant self.now) sort i };
+        ensures { result ≡ rank_of (Self.meant self.now) sort i };
 
     /// The `n`-th smallest bay of the sort; none at 0 and beyond their number.
     fn select(&self, sort: Sort, n: u32) -> Option<u32>
-        ensures { result ≡ select_of (meant self.now) sort n };
+        ensures { result ≡ select_of (Self.meant self.now) sort n };
 }
 
 /// The laws of the answers. There is nothing to run: the contract is the theorem.

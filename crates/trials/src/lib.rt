@@ -1,4 +1,6 @@
 // Tables of openings and of calls of a round at their edges.
+#![tactic(auto)]
+
 #[cfg(test)]
 mod calls;
 #[cfg(test)]

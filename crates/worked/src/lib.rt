@@ -1,4 +1,6 @@
 // The worked garage: cases that were worked out by hand, proved from the definitions.
+#![tactic(auto)]
+
 ghost use Rattle.sets.specs.Lists.{Each};
 ghost use Rattle.worked.specs.Cases.{Right, cases};
 

@@ -44,24 +44,41 @@ opening_law u β us os ms =
 
 -- what is accepted is lawful in every part
 module _ (u β : ℕ) (us os ms : List ℕ) where
-  abbrev RowsLawful : Type 0
-  RowsLawful =
-      Marked u β (bit_at us) (bit_at os)
-      × (Within u β (bit_at us) (bit_at os)
-      × (SomeOne u β (bit_at us) (bit_at ms) × (SomeZero u β (bit_at us) (bit_at ms) × (Ended u β (bit_at us) (bit_at ms) × Unit {0}))))
-
   abbrev PartsLawful : Type 0
-  PartsLawful =
-      Whole (blocks_of u β) us
-      × (Whole (blocks_of u β) os
-      × (Whole (mixed_bits u β us) ms
-      × (Clear (blocks_of u β) us × (Clear (blocks_of u β) os × (Clear (mixed_bits u β us) ms × RowsLawful)))))
+  PartsLawful = record {
+    sized : LastBay u;
+    blocked : BlockSize β;
+    whole_u : Whole (blocks_of u β) us;
+    whole_o : Whole (blocks_of u β) os;
+    whole_m : Whole (mixed_bits u β us) ms;
+    clear_u : Clear (blocks_of u β) us;
+    clear_o : Clear (blocks_of u β) os;
+    clear_m : Clear (mixed_bits u β us) ms;
+    marks : Marked u β (bit_at us) (bit_at os);
+    within : Within u β (bit_at us) (bit_at os);
+    ones : SomeOne u β (bit_at us) (bit_at ms);
+    zeros : SomeZero u β (bit_at us) (bit_at ms);
+    ends : Ended u β (bit_at us) (bit_at ms);
+  }
 
-  pub accepted : OpeningIs u β us os ms (Ok tt) → LastBay u × (BlockSize β × PartsLawful)
+  pub accepted : OpeningIs u β us os ms (Ok tt) → PartsLawful
   accepted law =
       let whole = law.1.1 in
       let clear = whole.1.1.1 in
       let marks = clear.1.1.1.0 in
       let mixes = clear.1.1.1.1.0 in
-      let rows : RowsLawful = (marks.0, (marks.1, (mixes.0, (mixes.1, (mixes.2, tt))))) in
-      (law.0, (law.1.0, (whole.0, (whole.1.0, (whole.1.1.0, (clear.0, (clear.1.0, (clear.1.1.0, rows))))))))
+      record {
+        sized = law.0;
+        blocked = law.1.0;
+        whole_u = whole.0;
+        whole_o = whole.1.0;
+        whole_m = whole.1.1.0;
+        clear_u = clear.0;
+        clear_o = clear.1.0;
+        clear_m = clear.1.1.0;
+        marks = marks.0;
+        within = marks.1;
+        ones = mixes.0;
+        zeros = mixes.1;
+        ends = mixes.2;
+      }

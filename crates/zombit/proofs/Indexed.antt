@@ -35,15 +35,15 @@ module _ (z : Zombit) where
       mul-le-mul_right z.size l
 
   pub small_mixed : length z.mixed.now ≤ 16384
-  small_mixed = omega (arith, z.wholeM, before_le (blocks z) (omega arith), places_few, z.sized.1, z.blocked.1)
+  small_mixed = omega (arith, z.whole_m, before_le (blocks z) (omega arith), places_few, z.sized.1, z.blocked.1)
 
   -- the bits of the first k blocks are in M
   pub before_within : (k : ℕ) → k ≤ blocks z → bits_before z.size (U z) k ≤ 8 * length z.mixed.now
-  before_within k h = omega (arith, mul-le-mul_right z.size (count_mono (λ j. not (U z j)) k (blocks z) h), z.wholeM)
+  before_within k h = omega (arith, mul-le-mul_right z.size (count_mono (λ j. not (U z j)) k (blocks z) h), z.whole_m)
 
   -- a mixed block has its bits in M
   pub bits_within : (k : ℕ) → k < blocks z → U z (suc k) ≡ false → bits_before z.size (U z) k + z.size ≤ 8 * length z.mixed.now
-  bits_within k h n = omega (arith, mixed_room z.size (U z) k (blocks z) h n, z.wholeM)
+  bits_within k h n = omega (arith, mixed_room z.size (U z) k (blocks z) h n, z.whole_m)
 
   -- ---- a place of block k
 

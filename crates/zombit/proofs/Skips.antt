@@ -115,10 +115,10 @@ module _ (A B : ℕ → Bool) where
   last_both n q k m e g same =
       let right = last_is b n (Some q) e in
       let left = last_is a n (Some k) g in
-      let lowB = right.0 in
-      let highB = right.1 in
-      let lowA = left.0 in
-      let highA = left.1 in
+      let low_b = right.0 in
+      let high_b = right.1 in
+      let low_a = left.0 in
+      let high_a = left.1 in
       last_by either n (Some m) (
         omega arith,
         omega arith,

@@ -25,16 +25,16 @@ module _ (u β : ℕ) (U O M : ℕ → Bool) (some : 1 ≤ β) where
 
   -- ---- lawful rows
 
-  module _ (lawO : LawfulO u β U O) (lawM : LawfulM u β U M) where
+  module _ (law_o : LawfulO u β U O) (law_m : LawfulM u β U M) where
     uniform_bay : (k j : ℕ) → k < blocks_of u β → Place β j → U (suc k) ≡ true → is_member s (k * β + j) ≡ O (suc k)
     uniform_bay k j h p y = ⊎_elim
-        (λ out. past k j out ∙ sym (⊎_elim (λ o. absurd (omega (arith, lawO.1 k ((h, y), o), out, p.1))) (λ o. o) (cases_Bool (O (suc k)))))
+        (λ out. past k j out ∙ sym (⊎_elim (λ o. absurd (omega (arith, law_o.1 k ((h, y), o), out, p.1))) (λ o. o) (cases_Bool (O (suc k)))))
         (λ in'. inside k j p in' ∙ cond-true _ _ _ y)
         (cases_lt u (k * β + j))
 
     mixed_bay : MixedTold u β s U M
     mixed_bay k m j p = ⊎_elim
-        (λ out. lawM.2 k j (m, p, out) ∙ sym (past k j out))
+        (λ out. law_m.2 k j (m, p, out) ∙ sym (past k j out))
         (λ in'. sym (inside k j p in' ∙ cond-false _ _ _ m.1))
         (cases_lt u (k * β + j))
 
@@ -43,7 +43,7 @@ module _ (u β : ℕ) (U O M : ℕ → Bool) (some : 1 ≤ β) where
         ⊎_elim (λ o. inl (λ j p. uniform_bay k j h p y ∙ o)) (λ o. inr (λ j p. uniform_bay k j h p y ∙ o)) (cases_Bool (O (suc k)))
 
     mixed_some : (k : ℕ) → Mixed u β U k → (AllOf s β k false → ⊥) × (AllOf s β k true → ⊥)
-    mixed_some k m = (λ all. lawM.0 k m (λ j p. mixed_bay k m j p ∙ all j p), λ all. lawM.1 k m (λ j p. mixed_bay k m j p ∙ all j p))
+    mixed_some k m = (λ all. law_m.0 k m (λ j p. mixed_bay k m j p ∙ all j p), λ all. law_m.1 k m (λ j p. mixed_bay k m j p ∙ all j p))
 
     uniforms : UniformTold u β s U
     uniforms k h = (
@@ -56,7 +56,7 @@ module _ (u β : ℕ) (U O M : ℕ → Bool) (some : 1 ≤ β) where
       λ o none. ⊎_elim (λ y. both_ways _ (none 1 one) (uniform_bay k 1 h one y ∙ o)) (λ n. (mixed_some k (h, n)).0 none) (cases_Bool (U (suc k))),
       λ has. ⊎_elim
           (λ y. ⊎_elim (λ o. o) (λ o. absurd (has (λ j p. uniform_bay k j h p y ∙ o))) (cases_Bool (O (suc k))))
-          (λ n. lawO.0 k (h, n))
+          (λ n. law_o.0 k (h, n))
           (cases_Bool (U (suc k))),
     )
 

@@ -1,4 +1,6 @@
 // The zombit form of an index: blocks of bays, of which only the mixed ones have their bays written out.
+#![tactic(auto)]
+
 ghost use Rattle.zombit.specs.Told.{LawfulTold};
 
 mod asks;

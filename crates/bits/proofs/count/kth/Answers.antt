@@ -14,10 +14,10 @@ loop-w-init c = (omega arith, omega (arith, count_none (is_bit c.args.bytes.now 
 
 pub returns-then-left-n : goal.returns-then-left-n
 returns-then-left-n c =
-    let place = c.place-in-word.ensures in
-    let q = 64 * c.loop-w.w + 1 + c.place-in-word.result in
+    let place = c.place_in_word.ensures in
+    let q = 64 * c.loop-w.w + 1 + c.place_in_word.result in
     let here = kth_in _ _ 64 _ _ q c.word-v.ensures place.below place.hit (omega arith) in
-    c.at-most.ensures ∙ up_kth _ _ c.args.last _ (omega arith) here.0 (omega (arith, here.1, place.kth))
+    c.at_most.ensures ∙ up_kth _ _ c.args.last _ (omega arith) here.0 (omega (arith, here.1, place.kth))
 
 pub loop-w-preserved : goal.loop-w-preserved
 loop-w-preserved c =

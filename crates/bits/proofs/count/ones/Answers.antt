@@ -13,10 +13,10 @@ pub loop-w-init : goal.loop-w-init
 loop-w-init c = sym (count_none _)
 
 -- one more word
-more : (c : goal.After-whole-word) → c.loop-w.n + ones c.whole-word.result ≡ count_to (bit_at c.args.bytes.now) (8 * (8 * (c.loop-w.w + 1)))
+more : (c : goal.After-whole_word) → c.loop-w.n + ones c.whole_word.result ≡ count_to (bit_at c.args.bytes.now) (8 * (8 * (c.loop-w.w + 1)))
 more c =
     let e : 8 * (8 * c.loop-w.w) + 64 ≡ 8 * (8 * (c.loop-w.w + 1)) = omega arith in
-    omega (arith, count_all _ _ 64 _ c.whole-word.ensures, ap (count_to (bit_at c.args.bytes.now)) e)
+    omega (arith, count_all _ _ 64 _ c.whole_word.ensures, ap (count_to (bit_at c.args.bytes.now)) e)
 
 -- the part of the last word
 whole : (c : goal.After-word) → c.loop-w.n + ones (bit_and c.word.result (1 * 2 ^ (c.args.i % 64) % 18446744073709551616 - 1)) ≡ count_to (bit_at c.args.bytes.now) c.args.i
@@ -29,14 +29,14 @@ whole c =
     let mask = ap ones (masked c.word.result (i % 64) 64 (omega arith)) in
     omega (arith, part, mask, ap (count_to f) e, ap (λ (x : ℕ). count_to f (8 * (8 * x))) at)
 
-pub overflow-add-n : goal.overflow-add-n
-overflow-add-n c = omega (arith, more c, count_le (bit_at c.args.bytes.now) (8 * (8 * (c.loop-w.w + 1))))
+pub overflow_add-n : goal.overflow_add-n
+overflow_add-n c = omega (arith, more c, count_le (bit_at c.args.bytes.now) (8 * (8 * (c.loop-w.w + 1))))
 
 pub loop-w-preserved : goal.loop-w-preserved
 loop-w-preserved c = more c
 
-pub overflow-add-result : goal.overflow-add-result
-overflow-add-result c = omega (arith, whole c, count_le (bit_at c.args.bytes.now) c.args.i)
+pub overflow_add-result : goal.overflow_add-result
+overflow_add-result c = omega (arith, whole c, count_le (bit_at c.args.bytes.now) c.args.i)
 
 pub returns : goal.returns
 returns c = record { value = whole c; bound = omega (arith, whole c, count_le (bit_at c.args.bytes.now) c.args.i) }

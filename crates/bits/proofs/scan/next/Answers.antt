@@ -13,7 +13,7 @@ returns-then-v-ne0 c =
     let k = (c.args.from - 1) % 64 in
     let q = c.args.from + count_trailing_zeros 64 (c.word.result / 2 ^ k) in
     let first = first_past _ _ 64 _ k _ q c.word.ensures refl (search rules) (omega arith) in
-    c.at-most.ensures ∙ up_first _ _ c.args.last _ c.requires.first (omega arith) first.0 (λ j a b. first.1 j (omega arith) b)
+    c.at_most.ensures ∙ up_first _ _ c.args.last _ c.requires.first (omega arith) first.0 (λ j a b. first.1 j (omega arith) b)
 
 pub loop-w-init : goal.loop-w-init
 loop-w-init c j a b = none_past _ _ 64 _ ((c.args.from - 1) % 64) c.word.ensures c.if-v-ne0.false j (omega arith) (omega arith)
@@ -22,7 +22,7 @@ pub returns-then-x-ne0 : goal.returns-then-x-ne0
 returns-then-x-ne0 c =
     let q = 64 * c.loop-w.w + 1 + count_trailing_zeros 64 c.word-x.result in
     let first = first_past _ _ 64 _ 0 c.word-x.result q c.word-x.ensures (omega arith) (search rules) (omega arith) in
-    c.at-most-then-x-ne0.ensures
+    c.at_most-then-x-ne0.ensures
     ∙ up_first _ _ c.args.last _ c.requires.first (omega arith) first.0 (joined _ _ (64 * c.loop-w.w) _ c.loop-w.invariant (λ j a b. first.1 j (omega arith) b))
 
 pub loop-w-preserved : goal.loop-w-preserved

@@ -9,11 +9,11 @@ use Rattle.bits.proofs.words.last_word.Goals as goal
 small : (n w : ℕ) → n ≤ 7 → w < 2 ^ (8 * n) → w < 2 ^ 56
 small n w l h = let most : 8 * n ≤ 56 = omega arith in lt_of_lt_of_le h (pow_mono most)
 
-pub overflow-mul-w : goal.overflow-mul-w
-overflow-mul-w c = omega (arith, small (length c.args.bytes.now - c.loop-k.k) _ (omega arith) c.loop-k.invariant.1.small)
+pub overflow_mul-w : goal.overflow_mul-w
+overflow_mul-w c = omega (arith, small (length c.args.bytes.now - c.loop-k.k) _ (omega arith) c.loop-k.invariant.1.small)
 
-pub overflow-add-w : goal.overflow-add-w
-overflow-add-w c = omega (arith, small (length c.args.bytes.now - c.loop-k.k) _ (omega arith) c.loop-k.invariant.1.small)
+pub overflow_add-w : goal.overflow_add-w
+overflow_add-w c = omega (arith, small (length c.args.bytes.now - c.loop-k.k) _ (omega arith) c.loop-k.invariant.1.small)
 
 pub loop-k-preserved : goal.loop-k-preserved
 loop-k-preserved c =

@@ -7,4 +7,4 @@ pub returns : goal.returns
 unfolding low_first
 returns c =
     let z = ap (λ (x : ℕ). get_or c.args.bytes.now x 0) (add-zero c.args.j) in
-    word_held c.args.bytes.now c.args.j _ (λ i. (c.type-inv.bytes i).fits) (omega (arith, z, c.from-le-bytes.ensures))
+    word_held c.args.bytes.now c.args.j _ (λ i. (c.type_inv.bytes i).fits) (omega (arith, z, c.from_le_bytes.ensures))

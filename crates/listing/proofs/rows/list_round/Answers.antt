@@ -14,13 +14,13 @@ returns g c =
     let memory = c.args.rows.now in
     let whole = play f k (length memory) fresh in
     let new = c.new-round.ensures in
-    let got = c.take-rows-written.ensures in
+    let got = c.take_rows-written.ensures in
     let start = c.new-round.result in
     let same : play (g.F.Walking.meant start.free) (g.C.Walking.meant start.class) (length memory) (state_of start) ≡ whole = λ i. play (g.F.Walking.meant (new.sets.0 i)) (g.C.Walking.meant (new.sets.1 i)) (length memory) (new.state i) in
-    let counts : c.take-rows-written.result ≡ length whole.rows = got.answer ∙ (λ i. length (same i).rows) in
-    let writes : c.take-rows-written.new.rows ≡ over whole.rows memory = got.writes ∙ (λ i. over (same i).rows memory) in
+    let counts : c.take_rows-written.result ≡ length whole.rows = got.answer ∙ (λ i. length (same i).rows) in
+    let writes : c.take_rows-written.new.rows ≡ over whole.rows memory = got.writes ∙ (λ i. over (same i).rows memory) in
     let report : c.close.result ≡ whole.report = c.close.ensures ∙ got.state ∙ (λ i. (same i).report) in
-    let front : take c.take-rows-written.result c.take-rows-written.new.rows ≡ whole.rows =
+    let front : take c.take_rows-written.result c.take_rows-written.new.rows ≡ whole.rows =
     (λ i. take (counts i) (writes i)) ∙ take-append_seam whole.rows (drop (length whole.rows) memory) in
     record {
       answer = λ i. record { rows = counts i; report = report i };

@@ -5,8 +5,8 @@ use Rattle.round.specs.States.{state_of, after_next}
 use Rattle.listing.proofs.Playing.{takes, Going, going_more, done_none, done_full}
 use Rattle.listing.proofs.rows.take_rows.Goals as goal
 
-pub returns-then-is-none : goal.returns-then-is-none
-returns-then-is-none g c =
+pub returns-then-is_none : goal.returns-then-is_none
+returns-then-is_none g c =
     let r = c.args.round.now in
     let f = g.F.Walking.meant r.free in
     let k = g.C.Walking.meant r.class in
@@ -16,7 +16,7 @@ returns-then-is-none g c =
     let got = c.next-taken.ensures in
     let step : c.next-taken.result ≡ takes f k here = got.step ∙ (λ i. takes (g.F.Walking.meant (inv.0 i)) (g.C.Walking.meant (inv.1 i)) here) in
     let state = got.state ∙ (λ i. after_next (g.F.Walking.meant (inv.0 i)) (g.C.Walking.meant (inv.1 i)) here) in
-    let none = sym (ap (λ (t : Taken). is_some t.bay) step) ∙ c.if-is-none.ensures in
+    let none = sym (ap (λ (t : Taken). is_some t.bay) step) ∙ c.if-is_none.ensures in
     let d = done_none f k (state_of r) c.args.rows.now n here c.loop-n.rows (omega arith) none inv.2 in
     record { answer = d.counts; writes = ap (set c.loop-n.rows n) step ∙ d.writes; state = state ∙ d.state }
 
@@ -31,7 +31,7 @@ loop-n-preserved g c =
     let got = c.next-taken.ensures in
     let step : c.next-taken.result ≡ takes f k here = got.step ∙ (λ i. takes (g.F.Walking.meant (inv.0 i)) (g.C.Walking.meant (inv.1 i)) here) in
     let state = got.state ∙ (λ i. after_next (g.F.Walking.meant (inv.0 i)) (g.C.Walking.meant (inv.1 i)) here) in
-    let some = sym (ap (λ (t : Taken). is_some t.bay) step) ∙ c.if-is-none.ensures in
+    let some = sym (ap (λ (t : Taken). is_some t.bay) step) ∙ c.if-is_none.ensures in
     let on = going_more f k (state_of r) c.args.rows.now n here c.loop-n.rows (omega arith) some inv.2 in (
       got.sets.0 ∙ inv.0,
       got.sets.1 ∙ inv.1,

@@ -14,9 +14,9 @@ returns-then-not-get c =
 pub loop-at-init : goal.loop-at-init
 loop-at-init c = passed_none _ _ _ _
 
-pub returns-in-default-next : goal.returns-in-default-next
-returns-in-default-next c =
-    let wrong = sum_lacks _ _ _ _ _ _ _ c.loop-at.invariant c.in-Some.at c.in-Some.ensures c.in-default-next.ensures in
+pub returns-in_default-next : goal.returns-in_default-next
+returns-in_default-next c =
+    let wrong = sum_lacks _ _ _ _ _ _ _ c.loop-at.invariant c.in-Some.at c.in-Some.ensures c.in_default-next.ensures in
     record { answer = is_unlawful _ _ _ _ wrong; law = (refl, wrong) }
 
 pub returns-then-at-behind : goal.returns-then-at-behind
@@ -24,11 +24,11 @@ returns-then-at-behind c =
     let wrong = touches _ _ _ _ _ _ _ _ _ c.loop-at.invariant c.in-Some.ensures c.in-Some-next.ensures c.if-at-behind.true in
     record { answer = is_unlawful _ _ _ _ wrong; law = (refl, wrong) }
 
-pub overflow-sub-behind : goal.overflow-sub-behind
-overflow-sub-behind c = let m = more _ _ _ _ _ _ _ _ _ c.loop-at.invariant c.in-Some.ensures c.in-Some-next.ensures in omega arith
+pub overflow_sub-behind : goal.overflow_sub-behind
+overflow_sub-behind c = let m = more _ _ _ _ _ _ _ _ _ c.loop-at.invariant c.in-Some.ensures c.in-Some-next.ensures in omega arith
 
-pub overflow-add-behind : goal.overflow-add-behind
-overflow-add-behind c = let m = more _ _ _ _ _ _ _ _ _ c.loop-at.invariant c.in-Some.ensures c.in-Some-next.ensures in omega arith
+pub overflow_add-behind : goal.overflow_add-behind
+overflow_add-behind c = let m = more _ _ _ _ _ _ _ _ _ c.loop-at.invariant c.in-Some.ensures c.in-Some-next.ensures in omega arith
 
 pub returns-then-behind-last : goal.returns-then-behind-last
 returns-then-behind-last c =
@@ -43,7 +43,7 @@ loop-at-preserved c = passed_more _ _ _ _ _ _ _ _ _ c.loop-at.invariant c.in-Som
 
 pub returns-in-Some-next-2 : goal.returns-in-Some-next-2
 returns-in-Some-next-2 c =
-    let wrong = run_lacks _ _ _ _ _ _ _ c.loop-at.invariant c.in-Some-next-2.field-0 c.in-default.ensures c.in-Some-next-2.ensures in
+    let wrong = run_lacks _ _ _ _ _ _ _ c.loop-at.invariant c.in-Some-next-2.field-0 c.in_default.ensures c.in-Some-next-2.ensures in
     record { answer = is_unlawful _ _ _ _ wrong; law = (refl, wrong) }
 
 -- the last bit was asked
@@ -56,5 +56,5 @@ ended c some =
 
 pub returns-in-None : goal.returns-in-None
 returns-in-None c =
-    let lawful = all_passed _ _ _ _ _ _ _ c.loop-at.invariant (ended c) c.in-default.ensures c.in-None.ensures in
+    let lawful = all_passed _ _ _ _ _ _ _ c.loop-at.invariant (ended c) c.in_default.ensures c.in-None.ensures in
     record { answer = is_lawful _ _ _ _ lawful; law = lawful }

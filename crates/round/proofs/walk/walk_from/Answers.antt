@@ -15,7 +15,7 @@ returns-then-m-p g c =
     let k = g.C.Walking.meant c.args.class.now in
     let p = c.loop-p.p in
     let within : p ≤ end f k = omega arith in
-    let here = rest_here f k p c.loop-p.n within (common_if f k p within (sym c.stretch-end-m.ensures ∙ c.if-m-p.true)) in
+    let here = rest_here f k p c.loop-p.n within (common_if f k p within (sym c.stretch_end-m.ensures ∙ c.if-m-p.true)) in
     let is-next = sym here ∙ c.loop-p.invariant.2 in
     record { is = is-next; first = handed_at f k c.args.from _ is-next; fewest = fewest_at f k c.args.from _ c.requires is-next; bays = (omega arith, omega arith); within = omega arith }
 
@@ -25,7 +25,7 @@ loop-p-smaller g c =
     let k = g.C.Walking.meant c.args.class.now in
     let p = c.loop-p.p in
     let within : p ≤ end f k = omega arith in
-    let apart = common_not f k p within (λ e. c.if-m-p.false (c.stretch-end-m.ensures ∙ e)) in
+    let apart = common_not f k p within (λ e. c.if-m-p.false (c.stretch_end-m.ensures ∙ e)) in
     let past = larger_past f k p within apart in
     omega arith
 
@@ -36,11 +36,11 @@ loop-p-preserved g c =
     let p = c.loop-p.p in
     let n = c.loop-p.n in
     let within : p ≤ end f k = omega arith in
-    let apart = common_not f k p within (λ e. c.if-m-p.false (c.stretch-end-m.ensures ∙ e)) in
+    let apart = common_not f k p within (λ e. c.if-m-p.false (c.stretch_end-m.ensures ∙ e)) in
     let past = larger_past f k p within apart in
     let top = larger_end f k p in
     let on = rest_on f k p n within apart in
-    (omega arith, omega arith, ap (λ m. rest f k m (n + 1)) c.stretch-end-m.ensures ∙ sym on ∙ c.loop-p.invariant.2)
+    (omega arith, omega arith, ap (λ m. rest f k m (n + 1)) c.stretch_end-m.ensures ∙ sym on ∙ c.loop-p.invariant.2)
 
 pub returns : goal.returns
 returns g c =

@@ -9,20 +9,20 @@ use Rattle.zombit.proofs.Places.{blocks_few}
 use Rattle.zombit.proofs.Checked.{none_wrong, one_wrong, mark_law}
 use Rattle.zombit.proofs.checks.check_marks.Goals as goal
 
-pub is-wrong-mark-requires : goal.is-wrong-mark-requires
-is-wrong-mark-requires c =
+pub is_wrong_mark-requires : goal.is_wrong_mark-requires
+is_wrong_mark-requires c =
     let some = c.requires.size.0 in
     let most = c.requires.last.1 in
     let few = blocks_few c.args.last c.args.size (omega arith) in
     record { size = c.requires.size; few = omega arith; uniform = omega (arith, c.requires.uniform); marked = omega (arith, c.requires.marked) }
 
-pub returns-then-is-wrong-mark : goal.returns-then-is-wrong-mark
-returns-then-is-wrong-mark c =
+pub returns-then-is_wrong_mark : goal.returns-then-is_wrong_mark
+returns-then-is_wrong_mark c =
     let u = c.args.last in
     let β = c.args.size in
     let us = c.args.uniform.now in
     let os = c.args.marked.now in
-    let e = one_wrong (wrong_mark u β (bit_at us) (bit_at os)) (blocks_of u β) _ c.loop-k.k (omega arith) c.if-is-wrong-mark.ensures in
+    let e = one_wrong (wrong_mark u β (bit_at us) (bit_at os)) (blocks_of u β) _ c.loop-k.k (omega arith) c.if-is_wrong_mark.ensures in
     record { answer = e; law = subst (λ (r : Check). CheckIs 6 (LawfulO u β (bit_at us) (bit_at os)) r) (sym e) (mark_law u β us os) }
 
 pub returns : goal.returns

@@ -10,7 +10,7 @@ use Rattle.zombit.proofs.Places.{block_of}
 use Rattle.zombit.proofs.Room.{mixed_few, bits_on, bits_here, mixed_room}
 use Rattle.zombit.proofs.Checked.{none_wrong, one_wrong, none_more, at_bit, mix_here, mix_on, mix_law}
 use Rattle.zombit.proofs.checks.check_mixes.Goals as goal
-use Rattle.zombit.proofs.checks.check_mixes.Goals.{then-not-get+else-not-is-mixed-block, else-not-get}
+use Rattle.zombit.proofs.checks.check_mixes.Goals.{then-not-get+else-not-is_mixed_block, else-not-get}
 
 pub loop-k-init : goal.loop-k-init
 loop-k-init c =
@@ -20,14 +20,14 @@ loop-k-init c =
 begins : (c : goal.Then-not-get) → c.loop-k.k * c.args.size < c.args.last
 begins c = let some = c.requires.size.0 in block_of c.args.last c.args.size c.loop-k.k (omega arith) (omega arith)
 
-pub overflow-mul-k : goal.overflow-mul-k
-overflow-mul-k c = omega (arith, begins c, c.requires.last.1)
+pub overflow_mul-k : goal.overflow_mul-k
+overflow_mul-k c = omega (arith, begins c, c.requires.last.1)
 
-pub overflow-sub-last : goal.overflow-sub-last
-overflow-sub-last c = omega (arith, begins c)
+pub overflow_sub-last : goal.overflow_sub-last
+overflow_sub-last c = omega (arith, begins c)
 
-pub is-mixed-block-requires : goal.is-mixed-block-requires
-is-mixed-block-requires c =
+pub is_mixed_block-requires : goal.is_mixed_block-requires
+is_mixed_block-requires c =
     let β = c.args.size in
     let us = c.args.uniform.now in
     let size = c.requires.size in
@@ -36,18 +36,18 @@ is-mixed-block-requires c =
     let room = mixed_room β (bit_at us) c.loop-k.k (blocks_of c.args.last β) (omega arith) (at_bit us _ _ c.if-not-get.ensures) in
     record { within = omega (arith, room, c.loop-k.invariant.0, c.requires.mixed); small = omega (arith, few, size.1, c.requires.mixed); bays = omega arith }
 
-pub returns-then-not-is-mixed-block : goal.returns-then-not-is-mixed-block
-returns-then-not-is-mixed-block c =
+pub returns-then-not-is_mixed_block : goal.returns-then-not-is_mixed_block
+returns-then-not-is_mixed_block c =
     let u = c.args.last in
     let β = c.args.size in
     let us = c.args.uniform.now in
     let ms = c.args.mixed.now in
-    let here = mix_here u β (bit_at us) (bit_at ms) c.loop-k.k _ _ c.loop-k.invariant.0 (at_bit us _ _ c.if-not-get.ensures) c.if-not-is-mixed-block.ensures in
+    let here = mix_here u β (bit_at us) (bit_at ms) c.loop-k.k _ _ c.loop-k.invariant.0 (at_bit us _ _ c.if-not-get.ensures) c.if-not-is_mixed_block.ensures in
     let e = one_wrong (wrong_mix u β (bit_at us) (bit_at ms)) (blocks_of u β) _ c.loop-k.k (omega arith) here in
     record { answer = e; law = subst (λ (r : Check). CheckIs 6 (LawfulM u β (bit_at us) (bit_at ms)) r) (sym e) (mix_law u β us ms) }
 
-pub overflow-add-start : goal.overflow-add-start
-overflow-add-start c =
+pub overflow_add-start : goal.overflow_add-start
+overflow_add-start c =
     let β = c.args.size in
     let us = c.args.uniform.now in
     let most = c.requires.last.1 in
@@ -65,9 +65,9 @@ loop-k-preserved c =
     let f = wrong_mix u β (bit_at us) (bit_at ms) in
     let next = ap (bits_before β (bit_at us)) (add-one k) in
     elim c.if-not-get.branch [
-      | then-not-get+else-not-is-mixed-block w ↦
+      | then-not-get+else-not-is_mixed_block w ↦
           let mixed = at_bit us k _ w.if-not-get.ensures in
-          let here = mix_here u β (bit_at us) (bit_at ms) k _ _ c.loop-k.invariant.0 mixed w.if-not-is-mixed-block.ensures in
+          let here = mix_here u β (bit_at us) (bit_at ms) k _ _ c.loop-k.invariant.0 mixed w.if-not-is_mixed_block.ensures in
           (omega (arith, w.start-is, c.loop-k.invariant.0, next, bits_here β (bit_at us) k mixed), none_more f k c.loop-k.invariant.1 here)
       | else-not-get w ↦
           let uniform = at_bit us k _ w.if-not-get.ensures in

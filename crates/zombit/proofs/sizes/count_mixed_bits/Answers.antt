@@ -5,8 +5,8 @@ use Rattle.bits.specs.Bits.{bit_at}
 use Rattle.zombit.specs.Blocks.{mixed_before}
 use Rattle.zombit.proofs.sizes.count_mixed_bits.Goals as goal
 
-pub overflow-mul-result : goal.overflow-mul-result
-overflow-mul-result c =
+pub overflow_mul-result : goal.overflow_mul-result
+overflow_mul-result c =
     let few : c.args.k - c.ones.result ≤ 131072 = omega arith in
     omega (arith, mul-le-mul few c.requires.size.1)
 

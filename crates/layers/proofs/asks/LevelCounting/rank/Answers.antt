@@ -4,8 +4,8 @@ use Rattle.sets.proofs.Only.{rank_mono}
 use Rattle.layers.proofs.Levels.{level_rank}
 use Rattle.layers.proofs.asks.LevelCounting.rank.Goals as goal
 
-pub overflow-sub-result : goal.overflow-sub-result
-overflow-sub-result g c =
+pub overflow_sub-result : goal.overflow_sub-result
+overflow_sub-result g c =
     simp (c.rank-before.ensures, c.rank.ensures) (rank_mono (g.S.Walking.meant c.args.self.now.below) c.args.sort _ _ (omega arith))
 
 pub returns : goal.returns

@@ -17,10 +17,10 @@ returns-then-n-eq0 c =
       | then-n-eq0-via-else-n-eq0+then-n-self w ↦ select_outside _ _ _ _ (inr w.if-n-self.true)
     ]
 
-pub overflow-add-bay : goal.overflow-add-bay
-overflow-add-bay c =
+pub overflow_add-bay : goal.overflow_add-bay
+overflow_add-bay c =
     let self = c.args.self.now in
-    omega (arith, c.members-before.ensures.bound, few _ _ self.inside self.climbs, c.if-n-self.false, self.sized.1)
+    omega (arith, c.members_before.ensures.bound, few _ _ self.inside self.climbs, c.if-n-self.false, self.sized.1)
 
 pub returns-then-at-self : goal.returns-then-at-self
 returns-then-at-self c =
@@ -36,12 +36,12 @@ returns-else-at-self c =
 
 pub returns-then-bay-self : goal.returns-then-bay-self
 returns-then-bay-self c =
-    let found = c.members-before.ensures in
+    let found = c.members_before.ensures in
     select_other _ _ c.args.n _ found.value found.other (omega (arith, c.if-n-eq0.false)) (omega (arith, c.if-bay-self.true))
     ∙ at_sort _ _ _ _ c.in-Others.is
 
 pub returns-else-bay-self : goal.returns-else-bay-self
 returns-else-bay-self c =
-    let found = c.members-before.ensures in
+    let found = c.members_before.ensures in
     select_no_other _ _ c.args.n _ found.value found.other (omega (arith, c.if-bay-self.false))
     ∙ at_sort _ _ _ _ c.in-Others.is

@@ -5,9 +5,9 @@ use Rattle.list.proofs.asks.ListWalking.holds.Goals as goal
 pub returns-then-n-gt0 : goal.returns-then-n-gt0
 returns-then-n-gt0 c =
     let self = c.args.self.now in
-    held_by_last _ _ self.inside self.climbs _ c.args.i c.members-to-n.ensures.value c.if-n-gt0.true c.members-to-n.ensures.bound
+    held_by_last _ _ self.inside self.climbs _ c.args.i c.members_to-n.ensures.value c.if-n-gt0.true c.members_to-n.ensures.bound
 
 pub returns-else-n-gt0 : goal.returns-else-n-gt0
 returns-else-n-gt0 c =
     let self = c.args.self.now in
-    held_by_none _ _ self.inside self.climbs _ c.args.i c.members-to-n.ensures.value c.if-n-gt0.false
+    held_by_none _ _ self.inside self.climbs _ c.args.i c.members_to-n.ensures.value c.if-n-gt0.false

@@ -5,14 +5,14 @@ use Rattle.list.specs.Decoding.{set_of}
 use Rattle.list.proofs.Asked.{rank_le, next_select}
 use Rattle.list.proofs.asks.ListWalking.next.Goals as goal
 
-pub overflow-add-rank : goal.overflow-add-rank
-overflow-add-rank c =
+pub overflow_add-rank : goal.overflow_add-rank
+overflow_add-rank c =
     let s = set_of c.args.self.now.last c.args.self.now.numbers.now in
-    omega (arith, c.rank.ensures, rank_le s c.args.sort c.saturating-sub.result, c.saturating-sub.ensures)
+    omega (arith, c.rank.ensures, rank_le s c.args.sort c.saturating_sub.result, c.saturating_sub.ensures)
 
 pub returns : goal.returns
 returns c =
     let s = set_of c.args.self.now.last c.args.self.now.numbers.now in
     let k = c.args.sort in
-    let before : c.rank.result ≡ rank_of s k (c.args.i - 1) = c.rank.ensures ∙ ap (rank_of s k) c.saturating-sub.ensures in
+    let before : c.rank.result ≡ rank_of s k (c.args.i - 1) = c.rank.ensures ∙ ap (rank_of s k) c.saturating_sub.ensures in
     c.select.ensures ∙ ap (λ (n : ℕ). select_of s k (n + 1)) before ∙ sym (next_select s k c.args.i)

@@ -4,8 +4,8 @@ use Rattle.sets.specs.Made.{set_by}
 use Rattle.list.specs.Decoding.{is_among}
 use Rattle.list.proofs.index.List.empty.Goals as goal
 
-pub invariant-of-result : goal.invariant-of-result
-invariant-of-result c = ((omega arith, omega arith), (λ j l. absurd (omega arith), (λ i j l. absurd (omega (arith, l.1)), tt)))
+pub invariant_of-result : goal.invariant_of-result
+invariant_of-result c = record { sized = (omega arith, omega arith); inside = λ j l. absurd (omega arith); climbs = λ i j l. absurd (omega (arith, l.1)) }
 
 pub returns : goal.returns
 unfolding set_by is_among

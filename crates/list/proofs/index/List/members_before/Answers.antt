@@ -6,8 +6,8 @@ use Rattle.list.proofs.index.List.members_before.Goals as goal
 pub loop-lo-init : goal.loop-lo-init
 loop-lo-init c = cut_all _ _
 
-pub overflow-sub-self : goal.overflow-sub-self
-overflow-sub-self c =
+pub overflow_sub-self : goal.overflow_sub-self
+overflow_sub-self c =
     let mid = c.loop-lo.lo + (c.loop-lo.hi - c.loop-lo.lo) / 2 in
     omega (arith, place_under _ _ c.args.self.now.inside c.args.self.now.climbs mid (omega arith))
 
@@ -22,8 +22,8 @@ loop-lo-preserved c =
     let under = place_under _ _ c.args.self.now.inside c.args.self.now.climbs mid (omega arith) in
     cut_below _ c.args.self.now.climbs _ (λ a b l. omega arith) _ _ mid c.loop-lo.invariant (omega arith) (omega arith) (omega (arith, under))
 
-pub overflow-cast-result : goal.overflow-cast-result
-overflow-cast-result c = omega (arith, few _ _ c.args.self.now.inside c.args.self.now.climbs, c.args.self.now.sized.1, c.loop-lo.invariant.0, c.loop-lo.invariant.1)
+pub overflow_cast-result : goal.overflow_cast-result
+overflow_cast-result c = omega (arith, few _ _ c.args.self.now.inside c.args.self.now.climbs, c.args.self.now.sized.1, c.loop-lo.invariant.0, c.loop-lo.invariant.1)
 
 pub returns : goal.returns
 returns c =

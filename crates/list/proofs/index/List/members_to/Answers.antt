@@ -16,8 +16,8 @@ loop-lo-preserved c =
     let mid = c.loop-lo.lo + (c.loop-lo.hi - c.loop-lo.lo) / 2 in
     cut_below _ c.args.self.now.climbs _ (λ a b l. omega arith) _ _ mid c.loop-lo.invariant (omega arith) (omega arith) (omega arith)
 
-pub overflow-cast-result : goal.overflow-cast-result
-overflow-cast-result c = omega (arith, few _ _ c.args.self.now.inside c.args.self.now.climbs, c.args.self.now.sized.1, c.loop-lo.invariant.0, c.loop-lo.invariant.1)
+pub overflow_cast-result : goal.overflow_cast-result
+overflow_cast-result c = omega (arith, few _ _ c.args.self.now.inside c.args.self.now.climbs, c.args.self.now.sized.1, c.loop-lo.invariant.0, c.loop-lo.invariant.1)
 
 pub returns : goal.returns
 returns c =

@@ -8,4 +8,4 @@ pub returns-then-i-self : goal.returns-then-i-self
 returns-then-i-self c = sym (made_outside _ _ _ _ c.if-i-self.true)
 
 pub returns : goal.returns
-returns c = c.is-some.ensures ∙ holds_by c.args.self.now c.args.i c.held.result c.if-i-self.false c.held.ensures
+returns c = c.is_some.ensures ∙ holds_by c.args.self.now c.args.i c.held.result c.if-i-self.false c.held.ensures

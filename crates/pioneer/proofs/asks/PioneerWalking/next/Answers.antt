@@ -12,8 +12,8 @@ pub returns-then-from-self : goal.returns-then-from-self
 returns-then-from-self c =
     next_by c.args.self.now _ c.args.sort c.args.i _ None refl c.max-from.ensures (first_by _ _ _ None (λ j a b. absurd (omega arith)))
 
-pub overflow-add-behind : goal.overflow-add-behind
-overflow-add-behind c =
+pub overflow_add-behind : goal.overflow_add-behind
+overflow_add-behind c =
     let low = held_low c.args.self.now c.max-from.result c.in-Others-Some.run' c.if-from-self.false c.in-Others-Some.ensures in
     omega (arith, low.1, c.args.self.now.sized.1)
 

@@ -13,28 +13,28 @@ pub returns-then-i-eq0 : goal.returns-then-i-eq0
 returns-then-i-eq0 c =
     previous_by c.args.self.now _ c.args.sort c.args.i _ None refl refl (last_by _ _ None (λ j a b. absurd (omega (arith, c.if-i-eq0.true))))
 
-pub returns-in-err-run : goal.returns-in-err-run
-returns-in-err-run c =
+pub returns-in_err-run-in-Members : goal.returns-in_err-run-in-Members
+returns-in_err-run-in-Members c =
     let p = c.args.self.now in
-    c.from-residual.ensures ∙ previous_by p _ Members _ _ None c.in-Members.is c.min-to.ensures (none_to_here _ _ _ _ p.lawful _ c.in-err-run.ensures)
+    c.from_residual.ensures ∙ previous_by p _ Members _ _ None c.in-Members.is c.min-to.ensures (none_to_here _ _ _ _ p.lawful _ c.in_err-run-in-Members.ensures)
 
-pub overflow-add-run : goal.overflow-add-run
-overflow-add-run c =
+pub overflow_add-run : goal.overflow_add-run
+overflow_add-run c =
     let p = c.args.self.now in
-    let found = c.in-ok-run.ensures in
-    let low = begun_low p c.min-to.result c.in-ok-run.run' (omega (arith, c.min-to.ensures)) found.0 found.1 in
+    let found = c.in_ok-run-in-Members.ensures in
+    let low = begun_low p c.min-to.result c.in_ok-run-in-Members.run' (omega (arith, c.min-to.ensures)) found.0 found.1 in
     omega (arith, low.1, p.sized.1)
 
-pub overflow-sub-run : goal.overflow-sub-run
-overflow-sub-run c =
-    let found = c.in-ok-run.ensures in
-    let low = begun_low c.args.self.now c.min-to.result c.in-ok-run.run' (omega (arith, c.min-to.ensures)) found.0 found.1 in
+pub overflow_sub-run : goal.overflow_sub-run
+overflow_sub-run c =
+    let found = c.in_ok-run-in-Members.ensures in
+    let low = begun_low c.args.self.now c.min-to.result c.in_ok-run-in-Members.run' (omega (arith, c.min-to.ensures)) found.0 found.1 in
     omega (arith, low.2)
 
-pub returns-in-ok-run : goal.returns-in-ok-run
-returns-in-ok-run c =
+pub returns-in_ok-run-in-Members : goal.returns-in_ok-run-in-Members
+returns-in_ok-run-in-Members c =
     let p = c.args.self.now in
-    let found = c.in-ok-run.ensures in
+    let found = c.in_ok-run-in-Members.ensures in
     previous_by p _ Members _ _ _ c.in-Members.is c.min-to.ensures
     (last_of_run _ _ _ _ p.lawful _ _ (omega (arith, c.min-to.ensures)) found.0
     (omega (arith, c.min.ensures, found.1.0, found.1.2)))

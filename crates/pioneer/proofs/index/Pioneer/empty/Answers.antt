@@ -29,20 +29,14 @@ no_sum : count_to (bit_at []) 0 ≡ 0
 unfolding count_to
 no_sum = refl
 
-pub invariant-of-result : goal.invariant-of-result
-invariant-of-result c = (
-  (omega arith, omega arith),
-  (
-    omega arith,
-    (
-      (refl, refl),
-      (
-        (λ i l. blank i (omega arith), λ i l. bit_past [] i l),
-        (all_fit 1 0 _ _ (omega (arith, no_run, no_sum)) (λ some. absurd (omega arith)) (λ r is. absurd (omega (arith, no_run, is.0, is.1))), tt),
-      ),
-    ),
-  ),
-)
+pub invariant_of-result : goal.invariant_of-result
+invariant_of-result c = record {
+  sized = (omega arith, omega arith);
+  most = omega arith;
+  whole = (refl, refl);
+  clear = (λ i l. blank i (omega arith), λ i l. bit_past [] i l);
+  lawful = all_fit 1 0 _ _ (omega (arith, no_run, no_sum)) (λ some. absurd (omega arith)) (λ r is. absurd (omega (arith, no_run, is.0, is.1)));
+}
 
 pub returns : goal.returns
 unfolding set_by in_run count_to bit_at

@@ -16,34 +16,34 @@ returns-then-k-eq0 c =
       | then-k-eq0-via-else-k-eq0+then-k-self w ↦ kth_by _ _ _ None (inr (omega (arith, w.if-k-self.true, all_members c.args.self.now)))
     ]
 
-pub returns-in-err-start : goal.returns-in-err-start
-returns-in-err-start c =
+pub returns-in_err-start : goal.returns-in_err-start
+returns-in_err-start c =
     let p = c.args.self.now in
     let is = run_of p.last p.count (starts_of p) (sums_of p) p.lawful c.args.k (omega arith) (omega arith) in
-    absurd (kth_there (starts_of p) p.last _ (omega arith) (omega (arith, is.1, c.ones-r.ensures.value)) c.in-err-start.ensures)
+    absurd (kth_there (starts_of p) p.last _ (omega arith) (omega (arith, is.1, c.ones-r.ensures.value)) c.in_err-start.ensures)
 
-pub overflow-sub-result : goal.overflow-sub-result
-overflow-sub-result c = omega (arith, c.unwrap-or-before.ensures, last_low (sums_of c.args.self.now) _ _ c.previous.ensures)
+pub overflow_sub-result : goal.overflow_sub-result
+overflow_sub-result c = omega (arith, c.unwrap_or-before.ensures, last_low (sums_of c.args.self.now) _ _ c.previous.ensures)
 
-pub overflow-add-result : goal.overflow-add-result
-overflow-add-result c =
+pub overflow_add-result : goal.overflow_add-result
+overflow_add-result c =
     let p = c.args.self.now in
-    let start = kth_found (starts_of p) p.last _ _ c.in-ok-start.ensures in
+    let start = kth_found (starts_of p) p.last _ _ c.in_ok-start.ensures in
     omega (arith, start.1, p.sized.1, p.most, c.if-k-self.false)
 
-pub overflow-sub-result-2 : goal.overflow-sub-result-2
-overflow-sub-result-2 c =
+pub overflow_sub-result-2 : goal.overflow_sub-result-2
+overflow_sub-result-2 c =
     let p = c.args.self.now in
-    omega (arith, (kth_found (starts_of p) p.last _ _ c.in-ok-start.ensures).0)
+    omega (arith, (kth_found (starts_of p) p.last _ _ c.in_ok-start.ensures).0)
 
 pub returns : goal.returns
 returns c =
     let p = c.args.self.now in
     let k = c.args.k in
-    let found = kth_found (starts_of p) p.last _ _ c.in-ok-start.ensures in
+    let found = kth_found (starts_of p) p.last _ _ c.in_ok-start.ensures in
     let number = ap (λ m. place_of (starts_of p) p.last (m + 1)) c.ones-r.ensures.value in
     let start = place_by (starts_of p) p.last _ _ found ∙ number in
-    let before = c.unwrap-or-before.ensures ∙ place_last (sums_of p) p.count (k - 1) _ (omega arith) c.previous.ensures in
+    let before = c.unwrap_or-before.ensures ∙ place_last (sums_of p) p.count (k - 1) _ (omega arith) c.previous.ensures in
     let low = last_low (sums_of p) (k - 1) _ c.previous.ensures in
     kth_member p.last p.count (starts_of p) (sums_of p) p.lawful k _ (omega arith) (omega arith)
-    (omega (arith, start, before, found.0, low, c.unwrap-or-before.ensures))
+    (omega (arith, start, before, found.0, low, c.unwrap_or-before.ensures))

@@ -8,28 +8,28 @@ use Rattle.bits.specs.Checks.{Whole, Clear}
 use Rattle.pioneer.specs.Runs.{Lawful}
 use Rattle.pioneer.proofs.Told.{decodes}
 use Rattle.pioneer.proofs.index.Pioneer.open.Goals as goal
-use Rattle.pioneer.proofs.index.Pioneer.open.Goals.{In-ok-at-7}
+use Rattle.pioneer.proofs.index.Pioneer.open.Goals.{In_ok-at-7}
 
-pub returns-in-err-at : goal.returns-in-err-at
-returns-in-err-at c = record { answer = search rules; law = search rules; means = decodes _ _ _ _; place = search rules }
+pub returns-in_err-at : goal.returns-in_err-at
+returns-in_err-at c = record { answer = search rules; law = search rules; means = decodes _ _ _ _; place = search rules }
 
-pub returns-in-err-at-2 : goal.returns-in-err-at-2
-returns-in-err-at-2 c = record { answer = search rules; law = search rules; means = decodes _ _ _ _; place = search rules }
+pub returns-in_err-at-2 : goal.returns-in_err-at-2
+returns-in_err-at-2 c = record { answer = search rules; law = search rules; means = decodes _ _ _ _; place = search rules }
 
-pub returns-in-err-at-3 : goal.returns-in-err-at-3
-returns-in-err-at-3 c = record { answer = search rules; law = search rules; means = decodes _ _ _ _; place = search rules }
+pub returns-in_err-at-3 : goal.returns-in_err-at-3
+returns-in_err-at-3 c = record { answer = search rules; law = search rules; means = decodes _ _ _ _; place = search rules }
 
-pub returns-in-err-at-4 : goal.returns-in-err-at-4
-returns-in-err-at-4 c = record { answer = search rules; law = search rules; means = decodes _ _ _ _; place = search rules }
+pub returns-in_err-at-4 : goal.returns-in_err-at-4
+returns-in_err-at-4 c = record { answer = search rules; law = search rules; means = decodes _ _ _ _; place = search rules }
 
-pub returns-in-err-at-5 : goal.returns-in-err-at-5
-returns-in-err-at-5 c = record { answer = search rules; law = search rules; means = decodes _ _ _ _; place = search rules }
+pub returns-in_err-at-5 : goal.returns-in_err-at-5
+returns-in_err-at-5 c = record { answer = search rules; law = search rules; means = decodes _ _ _ _; place = search rules }
 
-pub returns-in-err-at-6 : goal.returns-in-err-at-6
-returns-in-err-at-6 c = record { answer = search rules; law = search rules; means = decodes _ _ _ _; place = search rules }
+pub returns-in_err-at-6 : goal.returns-in_err-at-6
+returns-in_err-at-6 c = record { answer = search rules; law = search rules; means = decodes _ _ _ _; place = search rules }
 
-pub returns-in-err-at-7 : goal.returns-in-err-at-7
-returns-in-err-at-7 c = record { answer = search rules; law = search rules; means = decodes _ _ _ _; place = search rules }
+pub returns-in_err-at-7 : goal.returns-in_err-at-7
+returns-in_err-at-7 c = record { answer = search rules; law = search rules; means = decodes _ _ _ _; place = search rules }
 
 -- what a check asked holds once it was passed
 passed : (P : Type 0) (form : Form) (n part : ℕ) (check : Check) → CheckIs n P check → Ok tt ≡ located form part check → P
@@ -37,7 +37,7 @@ passed P form n part (Ok _) law e = law
 passed P form n part (Err f) law e = absurd (let z : ◌≡◌ {A = ℕ} 0 1 = cc in omega arith)
 
 -- all that was asked holds once all was passed
-asked : (c : In-ok-at-7) → (
+asked : (c : In_ok-at-7) → (
     LastBay c.args.last
     × ((c.args.count ≤ c.args.last)
     × ((Whole c.args.last c.args.starts.now × Whole c.args.count c.args.sums.now)
@@ -45,30 +45,21 @@ asked : (c : In-ok-at-7) → (
     × Lawful c.args.last c.args.count (bit_at c.args.starts.now) (bit_at c.args.sums.now))))
     )
 asked c = (
-  passed _ _ 1 _ _ c.check-last.ensures.law c.in-ok-at.ensures,
+  passed _ _ 1 _ _ c.check_last.ensures.law c.in_ok-at.ensures,
   (
-    passed _ _ 1 _ _ c.check-count.ensures.law c.in-ok-at-2.ensures,
+    passed _ _ 1 _ _ c.check_count.ensures.law c.in_ok-at-2.ensures,
     (
-      (passed _ _ 2 _ _ c.check-length.ensures.law c.in-ok-at-3.ensures, passed _ _ 2 _ _ c.check-length-2.ensures.law c.in-ok-at-4.ensures),
+      (passed _ _ 2 _ _ c.check_length.ensures.law c.in_ok-at-3.ensures, passed _ _ 2 _ _ c.check_length-2.ensures.law c.in_ok-at-4.ensures),
       (
-        (passed _ _ 3 _ _ c.check-spare.ensures.law c.in-ok-at-5.ensures, passed _ _ 3 _ _ c.check-spare-2.ensures.law c.in-ok-at-6.ensures),
-        passed _ _ 6 _ _ c.check-runs.ensures.law c.in-ok-at-7.ensures,
+        (passed _ _ 3 _ _ c.check_spare.ensures.law c.in_ok-at-5.ensures, passed _ _ 3 _ _ c.check_spare-2.ensures.law c.in_ok-at-6.ensures),
+        passed _ _ 6 _ _ c.check_runs.ensures.law c.in_ok-at-7.ensures,
       ),
     ),
   ),
 )
 
-pub invariant-of-self : goal.invariant-of-self
-invariant-of-self c = let all = asked (goal.at.invariant-of-self c).In-ok-at-7 in (all.0, (all.1.0, (all.1.1.0, (all.1.1.1.0, (all.1.1.1.1, tt)))))
+pub invariant_of-self : goal.invariant_of-self
+invariant_of-self c = let all = asked c in record { sized = all.0; most = all.1.0; whole = all.1.1.0; clear = all.1.1.1.0; lawful = all.1.1.1.1 }
 
-pub returns : goal.returns
-returns c =
-    let all = asked (goal.at.returns c).In-ok-at-7 in
-    let whole = all.1.1.0 in
-    let clear = all.1.1.1.0 in
-    record {
-      answer = search rules;
-      law = (all.0, (all.1.0, (whole.0, (whole.1, (clear.0, (clear.1, (all.1.1.1.1, tt)))))));
-      means = decodes _ _ _ _;
-      place = (refl, refl, refl, refl);
-    }
+pub returns-clause-means : goal.returns-clause-means
+returns-clause-means c = decodes _ _ _ _

@@ -5,8 +5,8 @@ use Rattle.plain.specs.Decoding.{set_of}
 use Rattle.plain.proofs.Blank.{blank_bit}
 use Rattle.plain.proofs.index.Plain.empty.Goals as goal
 
-pub invariant-of-result : goal.invariant-of-result
-invariant-of-result c = ((omega arith, omega arith), (refl, (λ i l. blank_bit i, tt)))
+pub invariant_of-result : goal.invariant_of-result
+invariant_of-result c = record { sized = (omega arith, omega arith); whole = refl; clear = λ i l. blank_bit i }
 
 pub returns : goal.returns
 unfolding set_of bit_at

@@ -11,10 +11,10 @@ returns g c =
     let f = g.F.Walking.meant c.args.self.now.free in
     let w = end f (g.C.Walking.meant c.args.self.now.class) in
     let p = c.args.p in
-    let above = c.up-to-above.ensures ∙ (λ i. up_to (c.end-of-w.ensures i) (c.next.ensures i)) in
-    let same : c.nearer-of.result ≡ nearest_to f w p = c.nearer-of.ensures ∙ (λ i. nearer p (c.previous-below.ensures i) (above i)) in
+    let above = c.up_to-above.ensures ∙ (λ i. up_to (c.end_of-w.ensures i) (c.next.ensures i)) in
+    let same : c.nearer_of.result ≡ nearest_to f w p = c.nearer_of.ensures ∙ (λ i. nearer p (c.previous-below.ensures i) (above i)) in
     let some : 1 ≤ p = omega arith in
-    let within : p ≤ w = omega (arith, c.end-of-w.ensures) in
+    let within : p ≤ w = omega (arith, c.end_of-w.ensures) in
     record {
       answer = nearest_ok f w p _ some within same;
       law = (some, within, subst (Nearest f w p) (sym same) (nearest_is f w p within));

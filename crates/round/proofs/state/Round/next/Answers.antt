@@ -4,11 +4,11 @@ use Rattle.round.specs.States.{handed_by}
 use Rattle.round.proofs.Rounds.{handed_some, handed_none}
 use Rattle.round.proofs.state.Round.next.Goals as goal
 
-pub returns-then-is-some : goal.returns-then-is-some
-returns-then-is-some g c =
+pub returns-then-is_some : goal.returns-then-is_some
+returns-then-is_some g c =
     let r = c.args.self.now in
-    let w = c.walk-from-walked.ensures in
-    let handed = handed_some _ r.handed (sym c.if-is-some.ensures) ∙ (λ i. r.handed + handed_by (w.is i).bay) in
+    let w = c.walk_from-walked.ensures in
+    let handed = handed_some _ r.handed (sym c.if-is_some.ensures) ∙ (λ i. r.handed + handed_by (w.is i).bay) in
     record {
       step = λ i. record { bay = (w.is i).bay; stretches = (w.is i).stretches };
       first = w.first;
@@ -17,11 +17,11 @@ returns-then-is-some g c =
       sets = (refl, refl);
     }
 
-pub returns-else-is-some : goal.returns-else-is-some
-returns-else-is-some g c =
+pub returns-else-is_some : goal.returns-else-is_some
+returns-else-is_some g c =
     let r = c.args.self.now in
-    let w = c.walk-from-walked.ensures in
-    let handed = handed_none _ r.handed (sym c.if-is-some.ensures) ∙ (λ i. r.handed + handed_by (w.is i).bay) in
+    let w = c.walk_from-walked.ensures in
+    let handed = handed_none _ r.handed (sym c.if-is_some.ensures) ∙ (λ i. r.handed + handed_by (w.is i).bay) in
     record {
       step = λ i. record { bay = (w.is i).bay; stretches = (w.is i).stretches };
       first = w.first;

@@ -9,7 +9,7 @@ pub returns-in-Some : goal.returns-in-Some
 returns-in-Some g c =
     let f = g.F.Walking.meant c.args.self.now.free in
     let w = end f (g.C.Walking.meant c.args.self.now.class) in
-    let given = c.up-to.ensures ∙ (λ i. up_to (c.end-of-w.ensures i) (c.select.ensures i)) in
+    let given = c.up_to.ensures ∙ (λ i. up_to (c.end_of-w.ensures i) (c.select.ensures i)) in
     let p = picks f w c.args.k (omega arith) (omega arith) _ (ap picked (sym c.in-Some.is ∙ given)) in
     record { answer = p.answer; law = p.law }
 
@@ -17,6 +17,6 @@ pub returns-in-None : goal.returns-in-None
 returns-in-None g c =
     let f = g.F.Walking.meant c.args.self.now.free in
     let w = end f (g.C.Walking.meant c.args.self.now.class) in
-    let given = c.up-to.ensures ∙ (λ i. up_to (c.end-of-w.ensures i) (c.select.ensures i)) in
+    let given = c.up_to.ensures ∙ (λ i. up_to (c.end_of-w.ensures i) (c.select.ensures i)) in
     let p = picks f w c.args.k (omega arith) (omega arith) _ (ap picked (sym c.in-None.is ∙ given)) in
     record { answer = p.answer; law = p.law }

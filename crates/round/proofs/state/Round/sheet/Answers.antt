@@ -6,7 +6,7 @@ use Rattle.round.specs.States.{state_of, after_next}
 use Rattle.round.proofs.Sheeting.{Done, going_more, done_none, done_full}
 use Rattle.round.proofs.Taking.{done_is, done_fewest}
 use Rattle.round.proofs.state.Round.sheet.Goals as goal
-use Rattle.round.proofs.state.Round.sheet.Goals.{else-loop-slot-test, then-loop-slot-test+in-default}
+use Rattle.round.proofs.state.Round.sheet.Goals.{else-loop-slot-test, then-loop-slot-test+in_default}
 
 pub loop-slot-preserved : goal.loop-slot-preserved
 loop-slot-preserved g c =
@@ -40,9 +40,9 @@ returns g c =
         ap (λ x. x.free) w.self-is ∙ inv.0,
         ap (λ x. x.class) w.self-is ∙ inv.1,
       )
-      | then-loop-slot-test+in-default w ↦ (
+      | then-loop-slot-test+in_default w ↦ (
         (let got = w.next.ensures in
-            let e = sym w.in-default.is ∙ ap (λ t. t.bay) got.step ∙ (λ i. (next_from (g.F.Walking.meant (inv.0 i)) (g.C.Walking.meant (inv.1 i)) here.place).bay) in
+            let e = sym w.in_default.is ∙ ap (λ t. t.bay) got.step ∙ (λ i. (next_from (g.F.Walking.meant (inv.0 i)) (g.C.Walking.meant (inv.1 i)) here.place).bay) in
             let s = got.state ∙ (λ i. after_next (g.F.Walking.meant (inv.0 i)) (g.C.Walking.meant (inv.1 i)) (state_of here)) in
             let d = done_none f k (state_of r) c.args.out.now n (state_of here) (state_of w.next.new.self) c.loop-slot.out (omega (arith, w.loop-slot-test.true)) e s inv.2 in
             subst (λ x. Done f k (state_of r) c.args.out.now (state_of x) at-end.out) (sym w.self-is) (subst (Done f k (state_of r) c.args.out.now (state_of w.next.new.self)) (sym (w.out-is ∙ set-get_or c.loop-slot.out n 0)) d)),

@@ -4,7 +4,7 @@ use Rattle.sets.specs.Search.{count_to}
 use Rattle.zombit.specs.Meant.{sorted, cut_at}
 use Rattle.zombit.proofs.Asked.{select_is, select_none}
 use Rattle.zombit.proofs.asks.ZombitCounting.select.Goals as goal
-use Rattle.zombit.proofs.asks.ZombitCounting.select.Goals.{then-n-eq0-via-then-n-eq0, then-n-eq0-via-else-n-eq0+then-n-count-before}
+use Rattle.zombit.proofs.asks.ZombitCounting.select.Goals.{then-n-eq0-via-then-n-eq0, then-n-eq0-via-else-n-eq0+then-n-count_before}
 
 pub returns-then-n-eq0 : goal.returns-then-n-eq0
 returns-then-n-eq0 c =
@@ -12,11 +12,11 @@ returns-then-n-eq0 c =
     let f = sorted z c.args.sort in
     elim c.then-n-eq0.branch [
       | then-n-eq0-via-then-n-eq0 w ↦ select_none z _ _ (inl w.if-n-eq0.true)
-      | then-n-eq0-via-else-n-eq0+then-n-count-before w ↦
-          select_none z _ _ (inr (omega (arith, w.if-n-count-before.true, w.count-before.ensures, ap (λ (k : ℕ). count_to f (k * z.size)) w.blocks-else-n-eq0.ensures)))
+      | then-n-eq0-via-else-n-eq0+then-n-count_before w ↦
+          select_none z _ _ (inr (omega (arith, w.if-n-count_before.true, w.count_before.ensures, ap (λ (k : ℕ). count_to f (k * z.size)) w.blocks-else-n-eq0.ensures)))
     ]
 
 pub returns : goal.returns
 returns c =
     let z = c.args.self.now in
-    c.within.ensures ∙ ap (cut_at z.last) c.nth-in-block.ensures ∙ select_is z _ _
+    c.within.ensures ∙ ap (cut_at z.last) c.nth_in_block.ensures ∙ select_is z _ _

@@ -29,7 +29,7 @@ get-requires c =
     let within = bits_within z _ c.spot-spot.ensures.block c.in-Mixed.ensures in
     record {
       first = omega (arith, c.spot-spot.ensures.first);
-      within = omega (arith, within, c.bits-before.ensures.value, c.spot-spot.ensures.end);
+      within = omega (arith, within, c.bits_before.ensures.value, c.spot-spot.ensures.end);
     }
 
 pub returns-in-All : goal.returns-in-All
@@ -47,4 +47,4 @@ returns-in-Mixed c =
     let z = c.args.self.now in
     let s = c.spot-spot.ensures in
     at_spot z _ _ _ _ (omega arith) (omega arith) s.bay
-    (c.get.ensures ∙ ap (λ (n : ℕ). M z (n + c.spot-spot.result.at)) c.bits-before.ensures.value ∙ sym (bay_mixed z _ _ (s.first, s.end) c.in-Mixed.ensures))
+    (c.get.ensures ∙ ap (λ (n : ℕ). M z (n + c.spot-spot.result.at)) c.bits_before.ensures.value ∙ sym (bay_mixed z _ _ (s.first, s.end) c.in-Mixed.ensures))

@@ -15,4 +15,4 @@ returns-then-i-self c =
 pub returns : goal.returns
 returns c =
     let z = c.args.self.now in
-    c.within.ensures ∙ ap (cut_at z.last) (c.first-from.ensures ∙ ap (first_place z c.args.sort) c.max.ensures) ∙ next_is z _ _
+    c.within.ensures ∙ ap (cut_at z.last) (c.first_from.ensures ∙ ap (first_place z c.args.sort) c.max.ensures) ∙ next_is z _ _

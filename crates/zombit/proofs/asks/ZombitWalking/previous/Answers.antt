@@ -25,4 +25,4 @@ returns-in-Some c = to_last c.args.self.now _ _ _ _ (c.spot-spot.ensures.bay ∙
 
 pub returns-in-None : goal.returns-in-None
 returns-in-None c =
-    to_last c.args.self.now _ _ _ _ (c.spot-spot.ensures.bay ∙ c.min-to.ensures) (c.in-None.ensures ∙ sym c.last-to-block.ensures)
+    to_last c.args.self.now _ _ _ _ (c.spot-spot.ensures.bay ∙ c.min-to.ensures) (c.in-None.ensures ∙ sym c.last_to_block.ensures)

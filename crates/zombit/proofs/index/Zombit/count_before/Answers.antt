@@ -17,11 +17,11 @@ ones-requires c =
 few : (z : Zombit) (k : ℕ) → k ≤ blocks z → k * z.size ≤ 69631
 few z k h = omega (arith, mul-le-mul_right z.size h, places_few z, z.sized.1, z.blocked.1)
 
-pub overflow-mul-result : goal.overflow-mul-result
-overflow-mul-result c = let l = few c.args.self.now _ c.requires.block in search (rules, l)
+pub overflow_mul-result : goal.overflow_mul-result
+overflow_mul-result c = let l = few c.args.self.now _ c.requires.block in search (rules, l)
 
-pub overflow-sub-result : goal.overflow-sub-result
-overflow-sub-result c =
+pub overflow_sub-result : goal.overflow_sub-result
+overflow_sub-result c =
     let z = c.args.self.now in
     let before = before_is z _ _ _ c.requires.block c.before-before.ensures.bits c.before-before.ensures.full in
     omega (arith, before, c.ones.ensures.value, count_le (bays z) (c.args.k * z.size))

@@ -13,8 +13,8 @@ opens : OpeningIs 1 2 (1 ∷ []) (0 ∷ []) [] (Ok tt)
 unfolding first_from count_to bit_at
 opens = opening_law 1 2 (1 ∷ []) (0 ∷ []) []
 
-pub invariant-of-result : goal.invariant-of-result
-invariant-of-result c = accepted 1 2 (1 ∷ []) (0 ∷ []) [] opens
+pub invariant_of-result : goal.invariant_of-result
+invariant_of-result c = accepted 1 2 (1 ∷ []) (0 ∷ []) [] opens
 
 pub returns : goal.returns
 unfolding set_by bay_in bit_at

@@ -15,27 +15,27 @@ pub next-requires : goal.next-requires
 next-requires c =
     let z = c.args.self.now in
     let within = bits_within z _ c.requires.block c.in-Mixed.ensures in
-    record { first = omega (arith, c.requires.first); within = omega (arith, within, c.bits-before-before.ensures.value); small = small_mixed z }
+    record { first = omega (arith, c.requires.first); within = omega (arith, within, c.bits_before-before.ensures.value); small = small_mixed z }
 
-pub overflow-sub-bit : goal.overflow-sub-bit
-overflow-sub-bit c =
+pub overflow_sub-bit : goal.overflow_sub-bit
+overflow_sub-bit c =
     let z = c.args.self.now in
-    (first_mixed z _ _ _ _ c.in-Mixed.ensures c.bits-before-before.ensures.value c.into.ensures _ _ c.requires.block (c.requires.first, c.requires.end) c.in-Some.ensures).1
+    (first_mixed z _ _ _ _ c.in-Mixed.ensures c.bits_before-before.ensures.value c.into.ensures _ _ c.requires.block (c.requires.first, c.requires.end) c.in-Some.ensures).1
 
 pub place-requires-in-Mixed : goal.place-requires-in-Mixed
 place-requires-in-Mixed c =
     let z = c.args.self.now in
     record {
       block = c.requires.block;
-      end = (first_mixed z _ _ _ _ c.in-Mixed.ensures c.bits-before-before.ensures.value c.into.ensures _ _ c.requires.block (c.requires.first, c.requires.end) c.in-Some.ensures).0.1;
+      end = (first_mixed z _ _ _ _ c.in-Mixed.ensures c.bits_before-before.ensures.value c.into.ensures _ _ c.requires.block (c.requires.first, c.requires.end) c.in-Some.ensures).0.1;
     }
 
 pub returns-in-Some : goal.returns-in-Some
 returns-in-Some c =
     let z = c.args.self.now in
-    (first_mixed z _ _ _ _ c.in-Mixed.ensures c.bits-before-before.ensures.value c.into.ensures _ _ c.requires.block (c.requires.first, c.requires.end) c.in-Some.ensures).2
+    (first_mixed z _ _ _ _ c.in-Mixed.ensures c.bits_before-before.ensures.value c.into.ensures _ _ c.requires.block (c.requires.first, c.requires.end) c.in-Some.ensures).2
     ∙ ap Some (sym c.place-in-Mixed.ensures)
 
-pub returns-in-default : goal.returns-in-default
-returns-in-default c =
-    first_gone c.args.self.now _ _ _ _ c.in-Mixed.ensures c.bits-before-before.ensures.value c.into.ensures _ (c.requires.first, c.requires.end) c.in-default.ensures
+pub returns-in_default : goal.returns-in_default
+returns-in_default c =
+    first_gone c.args.self.now _ _ _ _ c.in-Mixed.ensures c.bits_before-before.ensures.value c.into.ensures _ (c.requires.first, c.requires.end) c.in_default.ensures

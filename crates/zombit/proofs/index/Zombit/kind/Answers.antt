@@ -13,8 +13,8 @@ as_marked z sort k b y e j p =
     let s : suc k ≡ k + 1 = omega arith in
     ap (fits sort) (bay_uniform z k j p (ap (U z) s ∙ sym y) ∙ ap (O z) s) ∙ sym e
 
-pub returns-then-is-of : goal.returns-then-is-of
-returns-then-is-of c = as_marked c.args.self.now _ _ _ c.if-not-get.ensures (c.if-is-of.ensures ∙ ap (fits c.args.sort) c.get-2.ensures)
+pub returns-then-is_of : goal.returns-then-is_of
+returns-then-is_of c = as_marked c.args.self.now _ _ _ c.if-not-get.ensures (c.if-is_of.ensures ∙ ap (fits c.args.sort) c.get-2.ensures)
 
-pub returns-else-is-of : goal.returns-else-is-of
-returns-else-is-of c = as_marked c.args.self.now _ _ _ c.if-not-get.ensures (c.if-is-of.ensures ∙ ap (fits c.args.sort) c.get-2.ensures)
+pub returns-else-is_of : goal.returns-else-is_of
+returns-else-is_of c = as_marked c.args.self.now _ _ _ c.if-not-get.ensures (c.if-is_of.ensures ∙ ap (fits c.args.sort) c.get-2.ensures)

@@ -28,14 +28,14 @@ next-requires-in-Others-2 c =
     let few = blocks_few z.last z.size (some_size z) in
     record {
       first = c.requires.first;
-      within = omega (arith, z.wholeU, c.blocks-blocks.ensures);
-      small = omega (arith, z.wholeU, few, z.sized.1);
+      within = omega (arith, z.whole_u, c.blocks-blocks.ensures);
+      small = omega (arith, z.whole_u, few, z.sized.1);
     }
 
-pub returns-in-default : goal.returns-in-default
-returns-in-default c =
+pub returns-in_default : goal.returns-in_default
+returns-in_default c =
     let z = c.args.self.now in
-    of_others z _ _ _ _ c.in-Others.is c.blocks-blocks.ensures (c.next-in-default.ensures ∙ first_one (U z) (O z) _ _ c.in-default.ensures)
+    of_others z _ _ _ _ c.in-Others.is c.blocks-blocks.ensures (c.next-in_default.ensures ∙ first_one (U z) (O z) _ _ c.in_default.ensures)
 
 pub returns-in-Some-next : goal.returns-in-Some-next
 returns-in-Some-next c =

@@ -15,28 +15,28 @@ rest z sort k n seen less e = omega arith
 pub place-requires : goal.place-requires
 place-requires c =
     let z = c.args.self.now in
-    record { block = c.requires.block; end = left_few z _ _ _ _ c.requires.block c.requires.before c.requires.reached (rest z _ _ _ _ c.requires.before c.count-before.ensures) }
+    record { block = c.requires.block; end = left_few z _ _ _ _ c.requires.block c.requires.before c.requires.reached (rest z _ _ _ _ c.requires.before c.count_before.ensures) }
 
 pub returns-in-All : goal.returns-in-All
 returns-in-All c =
     let z = c.args.self.now in
-    ap Some c.place.ensures ∙ nth_all z _ _ _ _ c.requires.block c.requires.before c.requires.reached (rest z _ _ _ _ c.requires.before c.count-before.ensures) c.in-All.ensures
+    ap Some c.place.ensures ∙ nth_all z _ _ _ _ c.requires.block c.requires.before c.requires.reached (rest z _ _ _ _ c.requires.before c.count_before.ensures) c.in-All.ensures
 
 pub returns-in-Bare : goal.returns-in-Bare
 returns-in-Bare c =
     let z = c.args.self.now in
-    absurd (nth_bare z _ _ _ _ c.requires.block c.requires.before c.requires.reached (rest z _ _ _ _ c.requires.before c.count-before.ensures) c.in-Bare.ensures)
+    absurd (nth_bare z _ _ _ _ c.requires.block c.requires.before c.requires.reached (rest z _ _ _ _ c.requires.before c.count_before.ensures) c.in-Bare.ensures)
 
-pub bits-of-earlier-requires : goal.bits-of-earlier-requires
-bits-of-earlier-requires c =
+pub bits_of-earlier-requires : goal.bits_of-earlier-requires
+bits_of-earlier-requires c =
     let z = c.args.self.now in
     let within = before_within z c.args.k (omega (arith, c.requires.block)) in
-    record { within = omega (arith, within, c.bits-before-before.ensures.value); small = small_mixed z }
+    record { within = omega (arith, within, c.bits_before-before.ensures.value); small = small_mixed z }
 
-pub overflow-add-earlier : goal.overflow-add-earlier
-overflow-add-earlier c =
+pub overflow_add-earlier : goal.overflow_add-earlier
+overflow_add-earlier c =
     let z = c.args.self.now in
-    let left = left_few z _ _ _ _ c.requires.block c.requires.before c.requires.reached (rest z _ _ _ _ c.requires.before c.count-before.ensures) in
+    let left = left_few z _ _ _ _ c.requires.block c.requires.before c.requires.reached (rest z _ _ _ _ c.requires.before c.count_before.ensures) in
     let size = z.blocked.1 in
     search (rules, left, size)
 
@@ -44,27 +44,27 @@ pub kth-requires : goal.kth-requires
 kth-requires c =
     let z = c.args.self.now in
     let within = bits_within z _ c.requires.block c.in-Mixed.ensures in
-    record { within = omega (arith, within, c.bits-before-before.ensures.value); small = small_mixed z }
+    record { within = omega (arith, within, c.bits_before-before.ensures.value); small = small_mixed z }
 
-pub returns-in-default : goal.returns-in-default
-returns-in-default c =
+pub returns-in_default : goal.returns-in_default
+returns-in_default c =
     let z = c.args.self.now in
-    absurd (nth_gone z _ _ _ _ c.requires.block c.requires.before c.requires.reached (rest z _ _ _ _ c.requires.before c.count-before.ensures) _ _ _ c.in-Mixed.ensures c.bits-before-before.ensures.value c.into.ensures c.bits-of-earlier.ensures.value c.in-default.ensures)
+    absurd (nth_gone z _ _ _ _ c.requires.block c.requires.before c.requires.reached (rest z _ _ _ _ c.requires.before c.count_before.ensures) _ _ _ c.in-Mixed.ensures c.bits_before-before.ensures.value c.into.ensures c.bits_of-earlier.ensures.value c.in_default.ensures)
 
-pub overflow-sub-bit : goal.overflow-sub-bit
-overflow-sub-bit c =
+pub overflow_sub-bit : goal.overflow_sub-bit
+overflow_sub-bit c =
     let z = c.args.self.now in
-    (nth_mixed z _ _ _ _ c.requires.block c.requires.before c.requires.reached (rest z _ _ _ _ c.requires.before c.count-before.ensures) _ _ _ c.in-Mixed.ensures c.bits-before-before.ensures.value c.into.ensures c.bits-of-earlier.ensures.value _ c.in-Some.ensures).0
+    (nth_mixed z _ _ _ _ c.requires.block c.requires.before c.requires.reached (rest z _ _ _ _ c.requires.before c.count_before.ensures) _ _ _ c.in-Mixed.ensures c.bits_before-before.ensures.value c.into.ensures c.bits_of-earlier.ensures.value _ c.in-Some.ensures).0
 
 pub place-requires-in-Mixed : goal.place-requires-in-Mixed
 place-requires-in-Mixed c =
     let z = c.args.self.now in
     record {
       block = c.requires.block;
-      end = (nth_mixed z _ _ _ _ c.requires.block c.requires.before c.requires.reached (rest z _ _ _ _ c.requires.before c.count-before.ensures) _ _ _ c.in-Mixed.ensures c.bits-before-before.ensures.value c.into.ensures c.bits-of-earlier.ensures.value _ c.in-Some.ensures).1.1;
+      end = (nth_mixed z _ _ _ _ c.requires.block c.requires.before c.requires.reached (rest z _ _ _ _ c.requires.before c.count_before.ensures) _ _ _ c.in-Mixed.ensures c.bits_before-before.ensures.value c.into.ensures c.bits_of-earlier.ensures.value _ c.in-Some.ensures).1.1;
     }
 
 pub returns-in-Some : goal.returns-in-Some
 returns-in-Some c =
     let z = c.args.self.now in
-    ap Some c.place-in-Mixed.ensures ∙ (nth_mixed z _ _ _ _ c.requires.block c.requires.before c.requires.reached (rest z _ _ _ _ c.requires.before c.count-before.ensures) _ _ _ c.in-Mixed.ensures c.bits-before-before.ensures.value c.into.ensures c.bits-of-earlier.ensures.value _ c.in-Some.ensures).2
+    ap Some c.place-in-Mixed.ensures ∙ (nth_mixed z _ _ _ _ c.requires.block c.requires.before c.requires.reached (rest z _ _ _ _ c.requires.before c.count_before.ensures) _ _ _ c.in-Mixed.ensures c.bits_before-before.ensures.value c.into.ensures c.bits_of-earlier.ensures.value _ c.in-Some.ensures).2

@@ -8,8 +8,8 @@ use Rattle.zombit.proofs.index.Zombit.place.Goals as goal
 few : (z : Zombit) (k : ℕ) → k < blocks z → k * z.size + z.size ≤ 69631
 few z k h = omega (arith, block_ends z k h, places_few z, z.sized.1, z.blocked.1)
 
-pub overflow-mul-result : goal.overflow-mul-result
-overflow-mul-result c = let l = few c.args.self.now c.args.k c.requires.block in search (rules, l)
+pub overflow_mul-result : goal.overflow_mul-result
+overflow_mul-result c = let l = few c.args.self.now c.args.k c.requires.block in search (rules, l)
 
-pub overflow-add-result : goal.overflow-add-result
-overflow-add-result c = let l = few c.args.self.now c.args.k c.requires.block in let e = c.requires.end in search (rules, l, e)
+pub overflow_add-result : goal.overflow_add-result
+overflow_add-result c = let l = few c.args.self.now c.args.k c.requires.block in let e = c.requires.end in search (rules, l, e)

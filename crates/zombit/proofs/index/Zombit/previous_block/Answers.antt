@@ -11,10 +11,10 @@ use Rattle.zombit.proofs.index.Zombit.previous_block.Goals as goal
 of_others : (z : Zombit) (sort : Sort) (to : ℕ) (r : Option ℕ) → sort ≡ Others → r ≡ last_to (λ j. not (U z j && O z j)) to → r ≡ last_to (block_has z sort) to
 of_others z sort to r s e = e ∙ (λ t. last_to (block_has z (sym s t)) to)
 
-pub returns-in-default : goal.returns-in-default
-returns-in-default c =
+pub returns-in_default : goal.returns-in_default
+returns-in_default c =
     let z = c.args.self.now in
-    of_others z _ _ _ c.in-Others.is (c.previous-in-default.ensures ∙ last_one (U z) (O z) _ c.in-default.ensures)
+    of_others z _ _ _ c.in-Others.is (c.previous-in_default.ensures ∙ last_one (U z) (O z) _ c.in_default.ensures)
 
 pub returns-in-Some-previous : goal.returns-in-Some-previous
 returns-in-Some-previous c =
