@@ -32,9 +32,9 @@ pub fn list_round<F: Counting + Drop, C: Walking + Drop>(
     class: C,
     rows: &mut [Taken],
 ) -> Listed
-    ensures answer { let f = F.Walking.meant free in let c = C.Walking.meant class in let p = play f c (length rows.entry.now) fresh in result ≡ record { rows = length p.rows; report = p.report } }
+    ensures answer { let f = F.Walking.meant free in let c = C.Walking.meant class in let p = play f c (length rows.old) fresh in result ≡ record { rows = length p.rows; report = p.report } }
     ensures writes { let f = F.Walking.meant free in let c = C.Walking.meant class in let p = play f c (length rows.old) fresh in rows.new ≡ over p.rows rows.old }
-    ensures all { let f = F.Walking.meant free in let c = C.Walking.meant class in (suc (end f c) ≤ length rows.entry.now → Complete f c (record { rows = take result.rows rows.exit.now; report = result.report })) }
+    ensures all { let f = F.Walking.meant free in let c = C.Walking.meant class in (suc (end f c) ≤ length rows.old → Complete f c (record { rows = take result.rows rows.new; report = result.report })) }
 {
     let mut round = Round::new(free, class);
     let written = take_rows(&mut round, rows);

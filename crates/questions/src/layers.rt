@@ -5,7 +5,6 @@ use layers::{Level, Turned};
 use plain::Plain;
 use sets::{Counting, Sort, Walking};
 use std::process::Abort;
-use std::test::Fail;
 
 // Members 1, 2, 3, 8, 9, 10 and 11 of 16 bays.
 const FREE: [u8; 2] = [135, 7];
@@ -30,105 +29,72 @@ fn turned(mut row: [bool; 16]) -> [bool; 16] {
 }
 
 // The bays `a` to `b` of a set as a level, of which `row` has the members, and the level turned.
-fn levels<S: Counting + Copy>(
-    rt: &impl Abort,
-    set: S,
-    row: &[bool; 16],
-    a: u32,
-    b: u32,
-) -> Result<(), Fail> {
+fn levels<S: Counting + Copy>(rt: &impl Abort, set: S, row: &[bool; 16], a: u32, b: u32) {
     assert!(rt; 1 <= a && a <= b && b <= 16);
     let part = &row[a as usize - 1..b as usize];
     let exchanged = turned(*row);
     match Level::new(set, a, b) {
-        Err(_) => {
-            assert!(rt; false);
-            Ok(())
-        },
+        Err(_) => assert!(rt; false),
         Ok(level) => {
-            questions(rt, &level, part)?;
+            questions(rt, &level, part);
             let over = Turned::new(level);
-            questions(rt, &over, &exchanged[a as usize - 1..b as usize])?;
+            questions(rt, &over, &exchanged[a as usize - 1..b as usize]);
             questions(rt, &over.into_below().into_below(), row)
         }
     }
 }
 
 #[test]
-fn a_set_turned(rt: HostRuntime) -> Result<(), Fail> {
+fn a_set_turned(rt: HostRuntime) {
     let free = opened(16, &FREE);
-    questions(&rt, &free, &ROW)?;
-    questions(&rt, &Turned::new(free), &turned(ROW))?;
-    questions(&rt, &Turned::new(Turned::new(&free)), &ROW)?;
-    questions(&rt, &Turned::new(free).into_below(), &ROW)
+    questions(&rt, &free, &ROW);
+    questions(&rt, &Turned::new(free), &turned(ROW));
+    questions(&rt, &Turned::new(Turned::new(&free)), &ROW);
+    questions(&rt, &Turned::new(free).into_below(), &ROW);
 }
 
 #[test]
-fn each_level_of_each_layer(rt: HostRuntime) -> Result<(), Fail> {
+fn each_level_of_each_layer(rt: HostRuntime) {
     let free = opened(16, &FREE);
     let others = Turned::new(&free);
     for a in 1..=16 {
         for b in a..=16 {
-            levels(&rt, &free, &ROW, a, b)?;
-            levels(&rt, others, &turned(ROW), a, b)?;
+            levels(&rt, &free, &ROW, a, b);
+            levels(&rt, others, &turned(ROW), a, b);
         }
     }
-    Ok(())
 }
 
 // Levels of levels: the bays `c` to `d` of the bays `a` to `b`.
-fn level_of_level<S: Counting + Copy>(
-    rt: &impl Abort,
-    set: S,
-    a: u32,
-    b: u32,
-    c: u32,
-    d: u32,
-) -> Result<(), Fail> {
+fn level_of_level<S: Counting + Copy>(rt: &impl Abort, set: S, a: u32, b: u32, c: u32, d: u32) {
     assert!(rt; 1 <= a && a <= b && b <= 16 && 1 <= c && c <= d && d <= 16);
     let first = a as usize + c as usize - 2;
     let past = a as usize + d as usize - 1;
     assert!(rt; first <= past && past <= 16);
     let part = &ROW[first..past];
     match Level::new(set, a, b) {
-        Err(_) => {
-            assert!(rt; false);
-            Ok(())
-        },
+        Err(_) => assert!(rt; false),
         Ok(level) => match Level::new(level, c, d) {
-            Err(_) => {
-                assert!(rt; false);
-                Ok(())
-            },
+            Err(_) => assert!(rt; false),
             Ok(upper) => questions(rt, &upper, part),
         },
     }
 }
 
 #[test]
-fn levels_of_levels(rt: HostRuntime) -> Result<(), Fail> {
+fn levels_of_levels(rt: HostRuntime) {
     let free = opened(16, &FREE);
     let twice = Turned::new(Turned::new(&free));
     for (a, b, c, d) in [(1, 16, 1, 16), (3, 16, 1, 14), (3, 16, 6, 9), (2, 9, 8, 8)] {
-        level_of_level(&rt, &free, a, b, c, d)?;
-        level_of_level(&rt, twice, a, b, c, d)?;
+        level_of_level(&rt, &free, a, b, c, d);
+        level_of_level(&rt, twice, a, b, c, d);
     }
-    Ok(())
 }
 
 // A level that is refused gives its set back.
-fn refused<S: Counting + Copy>(
-    rt: &impl Abort,
-    set: S,
-    a: u32,
-    b: u32,
-    due: Refusal,
-) -> Result<(), Fail> {
+fn refused<S: Counting + Copy>(rt: &impl Abort, set: S, a: u32, b: u32, due: Refusal) {
     match Level::new(set, a, b) {
-        Ok(_) => {
-            assert!(rt; false);
-            Ok(())
-        },
+        Ok(_) => assert!(rt; false),
         Err((back, refusal)) => {
             assert_eq!(rt; refusal, due);
             questions(rt, &back, &ROW)
@@ -137,7 +103,7 @@ fn refused<S: Counting + Copy>(
 }
 
 #[test]
-fn refusals(rt: HostRuntime) -> Result<(), Fail> {
+fn refusals(rt: HostRuntime) {
     let free = opened(16, &FREE);
     let cases = [
         (0, 0, Refusal::NoBay),
@@ -154,20 +120,16 @@ fn refusals(rt: HostRuntime) -> Result<(), Fail> {
         (MOST, MOST, Refusal::Beyond),
     ];
     for (a, b, due) in cases {
-        refused(&rt, &free, a, b, due)?;
-        refused(&rt, Turned::new(Turned::new(&free)), a, b, due)?;
+        refused(&rt, &free, a, b, due);
+        refused(&rt, Turned::new(Turned::new(&free)), a, b, due);
     }
-    Ok(())
 }
 
 #[test]
-fn an_upper_level(rt: HostRuntime) -> Result<(), Fail> {
+fn an_upper_level(rt: HostRuntime) {
     let free = opened(16, &FREE);
     match Level::new(&free, 3, 16) {
-        Err(_) => {
-            assert!(rt; false);
-            Ok(())
-        },
+        Err(_) => assert!(rt; false),
         Ok(level) => {
             assert_eq!(rt; level.last(), 14);
             assert_eq!(rt; level.next(Sort::Members, 2), Some(6));
@@ -175,22 +137,18 @@ fn an_upper_level(rt: HostRuntime) -> Result<(), Fail> {
             assert_eq!(rt; level.rank(Sort::Members, 14), 5);
             assert_eq!(rt; level.select(Sort::Members, 5), Some(9));
             assert_eq!(rt; level.select(Sort::Others, 5), Some(10));
-            Ok(())
         }
     }
 }
 
 // The bays 2 to 65,535 of the largest garage, of which all but the last are members.
 #[test]
-fn the_largest_level(rt: HostRuntime) -> Result<(), Fail> {
+fn the_largest_level(rt: HostRuntime) {
     let mut memory = [255u8; 8192];
     memory[8191] = 63;
     let most = opened(65535, &memory);
     match Level::new(&most, 2, 65535) {
-        Err(_) => {
-            assert!(rt; false);
-            Ok(())
-        },
+        Err(_) => assert!(rt; false),
         Ok(level) => {
             assert_eq!(rt; level.last(), 65534);
             assert_eq!(rt; level.next(Sort::Others, 0), Some(65534));
@@ -200,7 +158,6 @@ fn the_largest_level(rt: HostRuntime) -> Result<(), Fail> {
             assert_eq!(rt; level.select(Sort::Members, 65534), None);
             assert_eq!(rt; level.select(Sort::Members, MOST), None);
             assert_eq!(rt; level.select(Sort::Others, MOST), None);
-            Ok(())
         }
     }
 }

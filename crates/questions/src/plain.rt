@@ -3,32 +3,29 @@ use super::asked::{MIXED, questions, row_of};
 use plain::Plain;
 use sets::{Counting, Sort, Walking};
 use std::process::Abort;
-use std::test::Fail;
 
 // The first bytes of a memory as an index of all their bits.
-fn ask(rt: &impl Abort, memory: &[u8], length: usize) -> Result<(), Fail> {
+fn ask(rt: &impl Abort, memory: &[u8], length: usize) {
     assert!(rt; 1 <= length && length <= memory.len() && length <= 40);
     let bits = &memory[0..length];
     let mut index = Plain::empty();
     assert!(rt; index.open(8 * length as u32, bits).is_ok());
-    questions(rt, &index, &row_of(bits)[0..8 * length])
+    questions(rt, &index, &row_of(bits)[0..8 * length]);
 }
 
 #[test]
-fn runs_and_single_bays(rt: HostRuntime) -> Result<(), Fail> {
+fn runs_and_single_bays(rt: HostRuntime) {
     for length in 1..=40 {
-        ask(&rt, &MIXED, length)?;
+        ask(&rt, &MIXED, length);
     }
-    Ok(())
 }
 
 #[test]
-fn none_and_all(rt: HostRuntime) -> Result<(), Fail> {
+fn none_and_all(rt: HostRuntime) {
     for length in [1usize, 7, 8, 9, 15, 16, 17, 40] {
-        ask(&rt, &[0; 40], length)?;
-        ask(&rt, &[255; 40], length)?;
+        ask(&rt, &[0; 40], length);
+        ask(&rt, &[255; 40], length);
     }
-    Ok(())
 }
 
 // Members 1, 64, 65 and 65,535 of 65,535 bays.

@@ -4,7 +4,6 @@ use plain::Plain;
 use round::{Report, Round, Taken, Written};
 use sets::{Counting, Walking};
 use std::process::Abort;
-use std::test::Fail;
 
 // Bays 1, 2, 3, 8, 9, 10 and 11 of 16.
 const FREE: [u8; 2] = [135, 7];
@@ -105,15 +104,14 @@ fn picks<F: Counting, C: Walking>(rt: &impl Abort, round: &Round<F, C>) {
     }
 }
 
-fn asks<F: Counting, C: Walking>(rt: &impl Abort, round: &Round<F, C>) -> Result<(), Fail> {
+fn asks<F: Counting, C: Walking>(rt: &impl Abort, round: &Round<F, C>) {
     counts(rt, round);
     nearests(rt, round);
     signs(rt, round);
     picks(rt, round);
-    Ok(())
 }
 
-fn goes<F: Counting, C: Walking>(rt: &impl Abort, round: &mut Round<F, C>) -> Result<(), Fail> {
+fn goes<F: Counting, C: Walking>(rt: &impl Abort, round: &mut Round<F, C>) {
     let cases = [
         (0, Err(Refusal::NoBay)),
         (1, Ok(())),
@@ -132,10 +130,9 @@ fn goes<F: Counting, C: Walking>(rt: &impl Abort, round: &mut Round<F, C>) -> Re
     }
     // At the end there is no bay and no stretch.
     assert_eq!(rt; round.next(), taken(None, 0));
-    Ok(())
 }
 
-fn sheets<F: Counting, C: Walking>(rt: &impl Abort, round: &mut Round<F, C>) -> Result<(), Fail> {
+fn sheets<F: Counting, C: Walking>(rt: &impl Abort, round: &mut Round<F, C>) {
     let mut empty = [];
     assert_eq!(rt; round.sheet(&mut empty), written(0, 0));
     let mut first = [7, 7];
@@ -146,47 +143,40 @@ fn sheets<F: Counting, C: Walking>(rt: &impl Abort, round: &mut Round<F, C>) -> 
     assert_eq!(rt; second, [10, 7, 7]);
     assert_eq!(rt; round.sheet(&mut second), written(0, 0));
     assert_eq!(rt; second, [10, 7, 7]);
-    Ok(())
 }
 
 #[test]
-fn calls_that_ask(rt: HostRuntime) -> Result<(), Fail> {
+fn calls_that_ask(rt: HostRuntime) {
     let free = opened(16, &FREE);
     let charging = opened(16, &CHARGING);
     let round = Round::new(&free, &charging);
-    let asked = asks(&rt, &round);
+    asks(&rt, &round);
     let closed = round.close();
-    asked?;
     assert_eq!(rt; closed, report(0, 0, 1));
-    Ok(())
 }
 
 #[test]
-fn calls_that_go(rt: HostRuntime) -> Result<(), Fail> {
+fn calls_that_go(rt: HostRuntime) {
     let free = opened(16, &FREE);
     let charging = opened(16, &CHARGING);
     let mut round = Round::new(free, charging);
-    let gone = goes(&rt, &mut round);
+    goes(&rt, &mut round);
     let closed = round.close();
-    gone?;
     assert_eq!(rt; closed, report(0, 0, 17));
-    Ok(())
 }
 
 #[test]
-fn calls_that_write(rt: HostRuntime) -> Result<(), Fail> {
+fn calls_that_write(rt: HostRuntime) {
     let free = opened(16, &FREE);
     let charging = opened(16, &CHARGING);
     let mut round = Round::new(free, charging);
-    let wrote = sheets(&rt, &mut round);
+    sheets(&rt, &mut round);
     let closed = round.close();
-    wrote?;
     assert_eq!(rt; closed, report(3, 9, 17));
-    Ok(())
 }
 
 // A round ends at the smaller of the two last bays, and sees no bay beyond it.
-fn shorter<F: Counting, C: Walking>(rt: &impl Abort, round: &mut Round<F, C>) -> Result<(), Fail> {
+fn shorter<F: Counting, C: Walking>(rt: &impl Abort, round: &mut Round<F, C>) {
     assert_eq!(rt; round.count(1, 9), Ok(5));
     assert_eq!(rt; round.count(1, 10), Err(Refusal::Beyond));
     assert_eq!(rt; round.nearest(9), Ok(Some(9)));
@@ -197,19 +187,16 @@ fn shorter<F: Counting, C: Walking>(rt: &impl Abort, round: &mut Round<F, C>) ->
     assert_eq!(rt; round.go(11), Err(Refusal::Beyond));
     assert_eq!(rt; round.next(), taken(None, 1));
     assert_eq!(rt; round.go(10), Ok(()));
-    Ok(())
 }
 
 #[test]
-fn calls_up_to_the_smaller_last_bay(rt: HostRuntime) -> Result<(), Fail> {
+fn calls_up_to_the_smaller_last_bay(rt: HostRuntime) {
     let free = opened(16, &FREE);
     let sides = opened(9, &SIDES);
     let mut round = Round::new(free, sides);
-    let called = shorter(&rt, &mut round);
+    shorter(&rt, &mut round);
     let closed = round.close();
-    called?;
     assert_eq!(rt; closed, report(1, 4, 10));
-    Ok(())
 }
 
 #[test]
@@ -224,7 +211,7 @@ fn the_lower_bay_at_equal_distance(rt: HostRuntime) {
 }
 
 // All 65,535 bays are common.
-fn largest<F: Counting, C: Walking>(rt: &impl Abort, round: &mut Round<F, C>) -> Result<(), Fail> {
+fn largest<F: Counting, C: Walking>(rt: &impl Abort, round: &mut Round<F, C>) {
     assert_eq!(rt; round.count(1, 65535), Ok(65535));
     assert_eq!(rt; round.count(1, 65536), Err(Refusal::Beyond));
     assert_eq!(rt; round.nearest(65535), Ok(Some(65535)));
@@ -237,18 +224,15 @@ fn largest<F: Counting, C: Walking>(rt: &impl Abort, round: &mut Round<F, C>) ->
     assert_eq!(rt; round.next(), taken(Some(65535), 1));
     assert_eq!(rt; round.next(), taken(None, 0));
     assert_eq!(rt; round.go(65536), Ok(()));
-    Ok(())
 }
 
 #[test]
-fn calls_in_the_largest_garage(rt: HostRuntime) -> Result<(), Fail> {
+fn calls_in_the_largest_garage(rt: HostRuntime) {
     let mut memory = [255u8; 8192];
     memory[8191] = 127;
     let all = opened(65535, &memory);
     let mut round = Round::new(all, all);
-    let called = largest(&rt, &mut round);
+    largest(&rt, &mut round);
     let closed = round.close();
-    called?;
     assert_eq!(rt; closed, report(2, 2, 65536));
-    Ok(())
 }

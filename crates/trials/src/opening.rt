@@ -3,7 +3,6 @@ use faults::{Fault, Flaw, Form};
 use plain::Plain;
 use sets::Walking;
 use std::process::Abort;
-use std::test::Fail;
 
 fn refused(flaw: Flaw, part: u8) -> Result<(), Fault> {
     Err(Fault {
@@ -26,25 +25,19 @@ fn open_front<'a>(
     last: u32,
     length: usize,
     due: Result<(), Fault>,
-) -> Result<(), Fail> {
+) {
     let mut index = Plain::empty();
     assert_eq!(rt; index.open(3, old), Ok(()));
     assert!(rt; length <= memory.len());
     assert_eq!(rt; index.open(last, &memory[0..length]), due);
     match due {
-        Ok(()) => {
-            assert!(rt; index.last() == last && !index.holds(1));
-            Ok(())
-        },
-        Err(_) => {
-            assert!(rt; is_as_it_was(&index));
-            Ok(())
-        },
+        Ok(()) => assert!(rt; index.last() == last && !index.holds(1)),
+        Err(_) => assert!(rt; is_as_it_was(&index)),
     }
 }
 
 #[test]
-fn lengths(rt: HostRuntime) -> Result<(), Fail> {
+fn lengths(rt: HostRuntime) {
     let memory = [0u8; 8194];
     let old = [5u8];
     let numbers = refused(Flaw::Numbers, 0);
@@ -69,13 +62,12 @@ fn lengths(rt: HostRuntime) -> Result<(), Fail> {
         (4294967295, 0, numbers),
     ];
     for (last, length, due) in cases {
-        open_front(&rt, &memory, &old, last, length, due)?;
+        open_front(&rt, &memory, &old, last, length, due);
     }
-    Ok(())
 }
 
 // Opens two bytes that have one bit.
-fn open_bit(rt: &impl Abort, last: u32, bit: u32, due: Result<(), Fault>) -> Result<(), Fail> {
+fn open_bit(rt: &impl Abort, last: u32, bit: u32, due: Result<(), Fault>) {
     let mut memory = [0u8; 2];
     let old = [5u8];
     let p = bit % 16;
@@ -85,19 +77,13 @@ fn open_bit(rt: &impl Abort, last: u32, bit: u32, due: Result<(), Fault>) -> Res
     let length = if last <= 8 { 1 } else { 2 };
     assert_eq!(rt; index.open(last, &memory[0..length]), due);
     match due {
-        Ok(()) => {
-            assert!(rt; index.holds(p + 1));
-            Ok(())
-        },
-        Err(_) => {
-            assert!(rt; is_as_it_was(&index));
-            Ok(())
-        },
+        Ok(()) => assert!(rt; index.holds(p + 1)),
+        Err(_) => assert!(rt; is_as_it_was(&index)),
     }
 }
 
 // Each bit of the bytes, alone: up to the last it is a bay, after it a flaw.
-fn open_each_bit(rt: &impl Abort, last: u32) -> Result<(), Fail> {
+fn open_each_bit(rt: &impl Abort, last: u32) {
     let bits = if last <= 8 { 8 } else { 16 };
     for bit in 0..bits {
         let due = if bit < last {
@@ -105,17 +91,15 @@ fn open_each_bit(rt: &impl Abort, last: u32) -> Result<(), Fail> {
         } else {
             refused(Flaw::Content, 1)
         };
-        open_bit(rt, last, bit, due)?;
+        open_bit(rt, last, bit, due);
     }
-    Ok(())
 }
 
 #[test]
-fn spare_bits(rt: HostRuntime) -> Result<(), Fail> {
+fn spare_bits(rt: HostRuntime) {
     for last in 1..=16 {
-        open_each_bit(&rt, last)?;
+        open_each_bit(&rt, last);
     }
-    Ok(())
 }
 
 #[test]

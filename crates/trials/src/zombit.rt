@@ -2,7 +2,6 @@
 use faults::{Fault, Flaw, Form};
 use sets::Walking;
 use std::process::Abort;
-use std::test::Fail;
 use zombit::Zombit;
 
 const MOST: u32 = 4294967295;
@@ -35,22 +34,14 @@ fn opens<'a>(
     marked: &'a [u8],
     mixed: &'a [u8],
     due: Result<(), Fault>,
-) -> Result<(), Fail> {
+) {
     let mut index = Zombit::empty();
-    assert_eq!(rt;
-        index.open(3, 2, &OLD_UNIFORM, &OLD_MARKED, &OLD_MIXED),
-        Ok(())
-    );
+    let opened = index.open(3, 2, &OLD_UNIFORM, &OLD_MARKED, &OLD_MIXED);
+    assert_eq!(rt; opened, Ok(()));
     assert_eq!(rt; index.open(last, size, uniform, marked, mixed), due);
     match due {
-        Ok(()) => {
-            assert_eq!(rt; index.last(), last);
-            Ok(())
-        },
-        Err(_) => {
-            assert!(rt; is_as_it_was(&index));
-            Ok(())
-        },
+        Ok(()) => assert_eq!(rt; index.last(), last),
+        Err(_) => assert!(rt; is_as_it_was(&index)),
     }
 }
 
@@ -62,7 +53,7 @@ fn opens_bytes(
     bytes: (u8, u8, u8),
     lengths: (usize, usize, usize),
     due: Result<(), Fault>,
-) -> Result<(), Fail> {
+) {
     let uniform = [bytes.0, 0];
     let marked = [bytes.1, 0];
     let mixed = [bytes.2, 0];
@@ -80,7 +71,7 @@ fn opens_bytes(
 }
 
 #[test]
-fn lawful(rt: HostRuntime) -> Result<(), Fail> {
+fn lawful(rt: HostRuntime) {
     let cases = [
         // the garage of 16 bays
         (16, 2, (213, 59, 25), (1, 1, 1)),
@@ -100,13 +91,12 @@ fn lawful(rt: HostRuntime) -> Result<(), Fail> {
         (4096, 4096, (1, 0, 0), (1, 1, 0)),
     ];
     for (last, size, bytes, lengths) in cases {
-        opens_bytes(&rt, last, size, bytes, lengths, Ok(()))?;
+        opens_bytes(&rt, last, size, bytes, lengths, Ok(()));
     }
-    Ok(())
 }
 
 #[test]
-fn numbers(rt: HostRuntime) -> Result<(), Fail> {
+fn numbers(rt: HostRuntime) {
     let last = refused(Flaw::Numbers, 0);
     let block = refused(Flaw::BlockSize, 0);
     let cases = [
@@ -124,14 +114,13 @@ fn numbers(rt: HostRuntime) -> Result<(), Fail> {
         (65535, MOST, block),
     ];
     for (last, size, due) in cases {
-        opens_bytes(&rt, last, size, (1, 0, 0), (1, 1, 0), due)?;
-        opens_bytes(&rt, last, size, (255, 255, 255), (2, 2, 2), due)?;
+        opens_bytes(&rt, last, size, (1, 0, 0), (1, 1, 0), due);
+        opens_bytes(&rt, last, size, (255, 255, 255), (2, 2, 2), due);
     }
-    Ok(())
 }
 
 #[test]
-fn lengths(rt: HostRuntime) -> Result<(), Fail> {
+fn lengths(rt: HostRuntime) {
     let uniform = refused(Flaw::Length, 1);
     let marked = refused(Flaw::Length, 2);
     let mixed = refused(Flaw::Length, 3);
@@ -154,13 +143,12 @@ fn lengths(rt: HostRuntime) -> Result<(), Fail> {
         (3, 2, (253, 2, 1), (1, 1, 0), mixed),
     ];
     for (last, size, bytes, lengths, due) in cases {
-        opens_bytes(&rt, last, size, bytes, lengths, due)?;
+        opens_bytes(&rt, last, size, bytes, lengths, due);
     }
-    Ok(())
 }
 
 #[test]
-fn spare_bits(rt: HostRuntime) -> Result<(), Fail> {
+fn spare_bits(rt: HostRuntime) {
     let uniform = refused(Flaw::Content, 1);
     let marked = refused(Flaw::Content, 2);
     let mixed = refused(Flaw::Content, 3);
@@ -177,13 +165,12 @@ fn spare_bits(rt: HostRuntime) -> Result<(), Fail> {
         (1, 2, (3, 0, 0), (1, 1, 0), uniform),
     ];
     for (last, size, bytes, lengths, due) in cases {
-        opens_bytes(&rt, last, size, bytes, lengths, due)?;
+        opens_bytes(&rt, last, size, bytes, lengths, due);
     }
-    Ok(())
 }
 
 #[test]
-fn unlawful(rt: HostRuntime) -> Result<(), Fail> {
+fn unlawful(rt: HostRuntime) {
     let marked = refused(Flaw::Unlawful, 2);
     let mixed = refused(Flaw::Unlawful, 3);
     let cases = [
@@ -210,9 +197,8 @@ fn unlawful(rt: HostRuntime) -> Result<(), Fail> {
         (3, 2, (0, 0, 0), (1, 1, 1), marked),
     ];
     for (last, size, bytes, lengths, due) in cases {
-        opens_bytes(&rt, last, size, bytes, lengths, due)?;
+        opens_bytes(&rt, last, size, bytes, lengths, due);
     }
-    Ok(())
 }
 
 // The first bay of each of 17 blocks of 4,095 bays: all blocks of the largest garage are mixed.
@@ -229,32 +215,27 @@ const LARGE_UNIFORM: [u8; 3] = [0, 0, 0];
 
 const LARGE_MARKED: [u8; 3] = [255, 255, 1];
 
-fn opens_large(
-    rt: &impl Abort,
-    last: u32,
-    mixed: &[u8],
-    due: Result<(), Fault>,
-) -> Result<(), Fail> {
-    opens(rt, last, 4095, &LARGE_UNIFORM, &LARGE_MARKED, mixed, due)
+fn opens_large(rt: &impl Abort, last: u32, mixed: &[u8], due: Result<(), Fault>) {
+    opens(rt, last, 4095, &LARGE_UNIFORM, &LARGE_MARKED, mixed, due);
 }
 
 #[test]
-fn largest(rt: HostRuntime) -> Result<(), Fail> {
+fn largest(rt: HostRuntime) {
     let memory = first_bays();
     let longer = [0u8; 8703];
-    opens_large(&rt, 65535, &memory, Ok(()))?;
-    opens_large(&rt, 65535, &memory[0..8701], refused(Flaw::Length, 3))?;
-    opens_large(&rt, 65535, &longer, refused(Flaw::Length, 3))?;
-    opens_large(&rt, 65520, &memory, refused(Flaw::Length, 1))
+    opens_large(&rt, 65535, &memory, Ok(()));
+    opens_large(&rt, 65535, &memory[0..8701], refused(Flaw::Length, 3));
+    opens_large(&rt, 65535, &longer, refused(Flaw::Length, 3));
+    opens_large(&rt, 65520, &memory, refused(Flaw::Length, 1));
 }
 
 #[test]
-fn end_of_the_largest(rt: HostRuntime) -> Result<(), Fail> {
+fn end_of_the_largest(rt: HostRuntime) {
     let mut memory = first_bays();
     memory[8701] = 64;
-    opens_large(&rt, 65535, &memory, refused(Flaw::Unlawful, 3))?;
+    opens_large(&rt, 65535, &memory, refused(Flaw::Unlawful, 3));
     memory[8701] = 128;
-    opens_large(&rt, 65535, &memory, refused(Flaw::Content, 3))
+    opens_large(&rt, 65535, &memory, refused(Flaw::Content, 3));
 }
 
 // 65,535 bays in the most blocks: 32,768 of two.
@@ -264,26 +245,26 @@ fn opens_most<'a>(
     marked: &'a [u8],
     mixed: &'a [u8],
     due: Result<(), Fault>,
-) -> Result<(), Fail> {
-    opens(rt, 65535, 2, uniform, marked, mixed, due)
+) {
+    opens(rt, 65535, 2, uniform, marked, mixed, due);
 }
 
 #[test]
-fn most_blocks(rt: HostRuntime) -> Result<(), Fail> {
+fn most_blocks(rt: HostRuntime) {
     let mut uniform = [255u8; 4097];
     let mut marked = [0u8; 4097];
     let none = [0u8; 0];
     let first = refused(Flaw::Length, 1);
     let second = refused(Flaw::Length, 2);
-    opens_most(&rt, &uniform[0..4096], &marked[0..4096], &none, Ok(()))?;
-    opens_most(&rt, &uniform[0..4095], &marked[0..4096], &none, first)?;
-    opens_most(&rt, &uniform, &marked[0..4096], &none, first)?;
-    opens_most(&rt, &uniform[0..4096], &marked, &none, second)?;
+    opens_most(&rt, &uniform[0..4096], &marked[0..4096], &none, Ok(()));
+    opens_most(&rt, &uniform[0..4095], &marked[0..4096], &none, first);
+    opens_most(&rt, &uniform, &marked[0..4096], &none, first);
+    opens_most(&rt, &uniform[0..4096], &marked, &none, second);
     let unmarked = refused(Flaw::Unlawful, 2);
     let past = refused(Flaw::Unlawful, 3);
     marked[4095] = 128;
-    opens_most(&rt, &uniform[0..4096], &marked[0..4096], &none, unmarked)?;
+    opens_most(&rt, &uniform[0..4096], &marked[0..4096], &none, unmarked);
     uniform[4095] = 127;
-    opens_most(&rt, &uniform[0..4096], &marked[0..4096], &[1u8], Ok(()))?;
-    opens_most(&rt, &uniform[0..4096], &marked[0..4096], &[2u8], past)
+    opens_most(&rt, &uniform[0..4096], &marked[0..4096], &[1u8], Ok(()));
+    opens_most(&rt, &uniform[0..4096], &marked[0..4096], &[2u8], past);
 }

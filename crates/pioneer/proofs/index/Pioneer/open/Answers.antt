@@ -2,13 +2,8 @@
 use Rattle.std.proofs.Common.{◌≡◌, ℕ, ◌≤◌, Ok, Err, refl, arith, rules}
 use Rattle.faults.specs.Checks.{Check, CheckIs, located}
 use Rattle.faults.specs.declared.fault.Form.{Form}
-use Rattle.sets.specs.Sets.{LastBay}
-use Rattle.bits.specs.Bits.{bit_at}
-use Rattle.bits.specs.Checks.{Whole, Clear}
-use Rattle.pioneer.specs.Runs.{Lawful}
 use Rattle.pioneer.proofs.Told.{decodes}
 use Rattle.pioneer.proofs.index.Pioneer.open.Goals as goal
-use Rattle.pioneer.proofs.index.Pioneer.open.Goals.{In_ok-at-7}
 
 pub returns-in_err-at : goal.returns-in_err-at
 returns-in_err-at c = record { answer = search rules; law = search rules; means = decodes _ _ _ _; place = search rules }
@@ -36,30 +31,20 @@ passed : (P : Type 0) (form : Form) (n part : ℕ) (check : Check) → CheckIs n
 passed P form n part (Ok _) law e = law
 passed P form n part (Err f) law e = absurd (let z : ◌≡◌ {A = ℕ} 0 1 = cc in omega arith)
 
--- all that was asked holds once all was passed
-asked : (c : In_ok-at-7) → (
-    LastBay c.args.last
-    × ((c.args.count ≤ c.args.last)
-    × ((Whole c.args.last c.args.starts.now × Whole c.args.count c.args.sums.now)
-    × ((Clear c.args.last c.args.starts.now × Clear c.args.count c.args.sums.now)
-    × Lawful c.args.last c.args.count (bit_at c.args.starts.now) (bit_at c.args.sums.now))))
-    )
-asked c = (
-  passed _ _ 1 _ _ c.check_last.ensures.law c.in_ok-at.ensures,
-  (
-    passed _ _ 1 _ _ c.check_count.ensures.law c.in_ok-at-2.ensures,
-    (
-      (passed _ _ 2 _ _ c.check_length.ensures.law c.in_ok-at-3.ensures, passed _ _ 2 _ _ c.check_length-2.ensures.law c.in_ok-at-4.ensures),
-      (
-        (passed _ _ 3 _ _ c.check_spare.ensures.law c.in_ok-at-5.ensures, passed _ _ 3 _ _ c.check_spare-2.ensures.law c.in_ok-at-6.ensures),
-        passed _ _ 6 _ _ c.check_runs.ensures.law c.in_ok-at-7.ensures,
-      ),
-    ),
-  ),
-)
-
 pub invariant_of-self : goal.invariant_of-self
-invariant_of-self c = let all = asked c in record { sized = all.0; most = all.1.0; whole = all.1.1.0; clear = all.1.1.1.0; lawful = all.1.1.1.1 }
+invariant_of-self c = record {
+  sized = passed _ _ 1 _ _ c.check_last.ensures.law c.in_ok-at.ensures;
+  most = passed _ _ 1 _ _ c.check_count.ensures.law c.in_ok-at-2.ensures;
+  whole = (
+    passed _ _ 2 _ _ c.check_length.ensures.law c.in_ok-at-3.ensures,
+    passed _ _ 2 _ _ c.check_length-2.ensures.law c.in_ok-at-4.ensures,
+  );
+  clear = (
+    passed _ _ 3 _ _ c.check_spare.ensures.law c.in_ok-at-5.ensures,
+    passed _ _ 3 _ _ c.check_spare-2.ensures.law c.in_ok-at-6.ensures,
+  );
+  lawful = passed _ _ 6 _ _ c.check_runs.ensures.law c.in_ok-at-7.ensures;
+}
 
 pub returns-clause-means : goal.returns-clause-means
 returns-clause-means c = decodes _ _ _ _
