@@ -1,6 +1,6 @@
 -- A way from one place to another: the common bays that it hands out, and the stretches that it takes. Ways join, and a way takes
 -- the fewest stretches: where its stretches begin are marks, of which no lawful stretch has two.
-use Rattle.std.proofs.Common.{◌≡◌, ℕ, suc, ◌+◌, ◌-◌, ◌<◌, ◌≤◌, Bool, true, false, ◌⊎◌, List, [], ◌∷◌, ◌++◌, length, refl, ap, ◌∙◌, subst, inl, inr, ⊎_elim, arith, length-append}
+use Rattle.std.proofs.Common.{◌≡◌, ℕ, suc, ◌+◌, ◌<◌, ◌≤◌, Bool, true, false, List, [], ◌∷◌, ◌++◌, length, refl, ap, ◌∙◌, subst, inl, inr, ⊎_elim, arith, length-append}
 use Rattle.std.proofs.lemmas.Bool.{cases_lt, both_ways}
 use Rattle.round.specs.Machine.{end, common, larger}
 use Rattle.round.proofs.Walks.{larger_past, larger_end}

@@ -1,5 +1,5 @@
 -- Rows apart, and numbers that step up, in joined lists.
-use Rattle.std.proofs.Common.{ℕ, suc, ◌+◌, ◌<◌, ◌≤◌, ◌⊎◌, List, [], ◌∷◌, ◌++◌, inl, inr, ⊎_elim, arith}
+use Rattle.std.proofs.Common.{ℕ, suc, ◌<◌, ◌≤◌, List, [], ◌∷◌, ◌++◌, inl, inr, ⊎_elim, arith}
 use Rattle.sets.specs.Lists.{Among, Rising}
 use Rattle.sets.proofs.Joins.{any_split}
 use Rattle.round.specs.Stretches.{Row, Has, In, Apart}

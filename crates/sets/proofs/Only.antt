@@ -1,5 +1,5 @@
 -- The laws leave one answer, so an implementation may show the law in the place of following the definition.
-use Rattle.std.proofs.Common.{◌≡◌, ℕ, suc, ◌-◌, ◌<◌, ◌≤◌, Bool, true, ◌⊎◌, List, length, Some, None, Option, sym, ap, ◌∙◌, ⊎_elim, arith}
+use Rattle.std.proofs.Common.{◌≡◌, ℕ, suc, ◌-◌, ◌<◌, ◌≤◌, Bool, true, List, length, Some, None, Option, sym, ap, ◌∙◌, ⊎_elim, arith}
 use Rattle.std.proofs.lemmas.Bool.{cases_lt}
 use Rattle.sets.specs.declared.Sort.{Sort}
 use Rattle.sets.specs.Sets.{is, next_of, previous_of, rank_of, select_of}

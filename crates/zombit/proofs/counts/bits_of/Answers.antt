@@ -1,5 +1,5 @@
 -- What is left to show of `bits_of`.
-use Rattle.std.proofs.Common.{◌-◌, ap, arith}
+use Rattle.std.proofs.Common.{ap, arith}
 use Rattle.sets.specs.declared.Sort.{Sort}
 use Rattle.sets.specs.Made.{of_sort}
 use Rattle.sets.specs.Search.{count_to}

@@ -1,5 +1,5 @@
 -- What is left to show of `Pioneer::open`.
-use Rattle.std.proofs.Common.{◌≡◌, ℕ, ◌≤◌, Ok, Err, refl, arith, rules}
+use Rattle.std.proofs.Common.{◌≡◌, ℕ, Ok, Err, arith, rules}
 use Rattle.faults.specs.Checks.{Check, CheckIs, located}
 use Rattle.faults.specs.declared.fault.Form.{Form}
 use Rattle.pioneer.proofs.Told.{decodes}
