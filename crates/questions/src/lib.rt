@@ -4,12 +4,12 @@
 #[cfg(test)]
 mod asked;
 #[cfg(test)]
-mod layers;
+mod layered;
 #[cfg(test)]
-mod list;
+mod list_form;
 #[cfg(test)]
-mod pioneer;
+mod pioneer_form;
 #[cfg(test)]
-mod plain;
+mod plain_form;
 #[cfg(test)]
-mod zombit;
+mod zombit_form;

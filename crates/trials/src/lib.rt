@@ -1,17 +1,17 @@
-// Tables of openings and of calls of a round at their edges.
+// Tables of openings and of calls of a round at their edges, and the plain form asked at every bay.
 #![tactic(auto)]
 
 #[cfg(test)]
 mod calls;
 #[cfg(test)]
-mod list;
-#[cfg(test)]
-mod opening;
+mod list_form;
 #[cfg(test)]
 mod pairs;
 #[cfg(test)]
-mod pioneer;
+mod pioneer_form;
+#[cfg(test)]
+mod plain_form;
 #[cfg(test)]
 mod questions;
 #[cfg(test)]
-mod zombit;
+mod zombit_form;

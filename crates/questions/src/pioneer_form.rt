@@ -1,6 +1,6 @@
 // The questions of a pioneer index at every bay, with its parts written bay by bay.
 use super::asked::{MIXED, put, questions, row_of};
-use super::plain::far_members;
+use super::plain_form::far_members;
 use pioneer::Pioneer;
 use std::process::Abort;
 

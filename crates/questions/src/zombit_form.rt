@@ -1,6 +1,6 @@
 // The questions of a zombit index in many block sizes, with its rows written bay by bay.
 use super::asked::{MIXED, put, questions, row_of};
-use super::plain::far_members;
+use super::plain_form::far_members;
 use std::process::Abort;
 use zombit::Zombit;
 

@@ -1,6 +1,6 @@
 // The questions of a list index at every bay.
 use super::asked::{MIXED, questions, row_of};
-use super::plain::far_members;
+use super::plain_form::far_members;
 use list::List;
 use std::process::Abort;
 
