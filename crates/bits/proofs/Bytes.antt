@@ -1,5 +1,5 @@
 -- The numbers that hold the bits of some bytes.
-use Rattle.std.proofs.Common.{◌≡◌, ℕ, zero, suc, ◌+◌, ◌-◌, ◌*◌, ◌/◌, ◌%◌, ◌^◌, ◌<◌, false, eqb, List, length, get_or, sym, ap, ◌∙◌, subst, ⊎_elim, add-zero, arith, pow-add}
+use Rattle.std.proofs.Common.{◌≡◌, ℕ, zero, suc, ◌+◌, ◌-◌, ◌*◌, ◌/◌, ◌%◌, ◌^◌, ◌<◌, ◌≤◌, false, eqb, List, length, get_or, sym, refl, ap, ◌∙◌, subst, ⊎_elim, add-zero, arith, pow-add}
 use lib.ListN.{get_or-eq_default}
 use Rattle.std.proofs.lemmas.Bool.{cases_lt}
 use Rattle.bits.specs.Bits.{bit_at}
@@ -51,5 +51,13 @@ low_held bs j k (suc n) small =
     let h = subst (λ (y : ℕ). Holds (bit_at bs) (8 * y) (8 * n) (low_first bs j (suc k) n)) same (low_held bs j (suc k) n small) in
     subst (λ (y : ℕ). Holds (bit_at bs) (8 * (j + k)) y (low_first bs j (suc k) n * 256 + get_or bs (j + k) 0)) e (byte_before bs (j + k) (8 * n) _ (small (j + k)) h)
 
-pub word_held : (bs : List ℕ) (j x : ℕ) → ((i : ℕ) → get_or bs i 0 < 256) → low_first bs j 0 8 ≡ x → Holds (bit_at bs) (8 * j) 64 x
-word_held bs j x small e = subst (λ (y : ℕ). Holds (bit_at bs) (8 * j) 64 y) e (simp add-zero at (low_held bs j 0 8 small))
+low_same : (bs es : List ℕ) (j k n : ℕ) → ((i : ℕ) → k ≤ i → i < k + n → get_or es (0 + i) 0 ≡ get_or bs (j + i) 0) → low_first bs j k n ≡ low_first es 0 k n
+unfolding low_first
+low_same bs es j k zero h = refl
+low_same bs es j k (suc n) h = omega (arith, low_same bs es j (suc k) n (λ i l b. h i (omega arith) (omega arith)), h k (omega arith) (omega arith))
+
+-- eight bytes that are those from j on, as one number
+pub eight_held : (bs es : List ℕ) (j x : ℕ) → ((i : ℕ) → get_or bs i 0 < 256) → ((k : ℕ) → k < 8 → get_or es k 0 ≡ get_or bs (j + k) 0) → low_first es 0 0 8 ≡ x → Holds (bit_at bs) (8 * j) 64 x
+eight_held bs es j x small same e =
+    let at : (i : ℕ) → get_or es (0 + i) 0 ≡ get_or es i 0 = λ i. let z : 0 + i ≡ i = omega arith in ap (λ (y : ℕ). get_or es y 0) z in
+    subst (λ (y : ℕ). Holds (bit_at bs) (8 * j) 64 y) (low_same bs es j 0 8 (λ i l h. at i ∙ same i (omega arith)) ∙ e) (simp add-zero at (low_held bs j 0 8 small))

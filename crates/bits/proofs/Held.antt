@@ -105,7 +105,7 @@ module _ (f : ℕ → Bool) where
 
   -- ---- the last
 
-  pub last_in_lem : (p m n x q : ℕ) → Holds f p n x → n ≤ m → 0 < x → q ≡ p + m - count_leading_zeros m x → (1 ≤ q) × (q ≤ p + n) × (f q ≡ true) × Without f q (p + n)
+  pub last_in_lem : (p m n x q : ℕ) → Holds f p n x → n ≤ m → 0 < x → q ≡ p + (m - count_leading_zeros m x) → (1 ≤ q) × (q ≤ p + n) × (f q ≡ true) × Without f q (p + n)
   last_in_lem p m n x q h l some at =
       let top = leading_top m x some (lt_of_lt_of_le h.small (pow_mono l)) in
       let t = top.0 in

@@ -2,5 +2,4 @@
 pub mod Digits
 pub mod Held
 pub mod Bytes
-pub mod Sorts
 pub mod Checked

@@ -3,16 +3,16 @@ ghost use Rattle.std.specs.Prelude.{◌≡◌, ◌≤◌, length};
 ghost use Rattle.faults.specs.Checks.{CheckIs};
 ghost use Rattle.bits.specs.Checks.{Whole, Clear, length_check, spare_check};
 
-use super::bit::Bit;
 use super::scan::next;
 use faults::Flaw;
+use sets::Sort;
 
 /// Checks that there are exactly as many bytes as `n` bits take.
 pub fn check_length(bytes: &[u8], n: u32) -> Result<(), Flaw>
     ensures answer { result ≡ length_check n bytes.now }
     ensures law { CheckIs 2 (Whole n bytes.now) result }
 {
-    if bytes.len() == (n as usize + 7) / 8 {
+    if bytes.len() == (n as usize).div_ceil(8) {
         Ok(())
     } else {
         Err(Flaw::Length)
@@ -26,7 +26,7 @@ pub fn check_spare(bytes: &[u8], n: u32) -> Result<(), Flaw>
     ensures answer { result ≡ spare_check n bytes.now }
     ensures law { CheckIs 3 (Clear n bytes.now) result }
 {
-    match next(bytes, Bit::One, n + 1, 8 * bytes.len() as u32) {
+    match next(bytes, Sort::Members, n + 1, 8 * bytes.len() as u32) {
         Some(_) => Err(Flaw::Content),
         None => Ok(()),
     }

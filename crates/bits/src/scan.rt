@@ -1,58 +1,57 @@
-// The next and the previous bit of a kind.
+// The next and the previous bit of a sort.
 ghost use Rattle.std.specs.Prelude.{◌≡◌, suc, ◌-◌, ◌*◌, ◌≤◌, length};
 ghost use Rattle.sets.specs.Search.{first_from, last_to};
 ghost use Rattle.bits.specs.Bits.{is_bit};
 ghost use Rattle.bits.specs.Words.{at_most};
 
-use super::bit::Bit;
 use super::words::word;
+use sets::Sort;
 
 // `i`, unless it lies beyond `last`.
-pub(crate) fn at_most(i: u32, last: u32) -> Option<u32>
+pub(crate) fn at_most(i: u64, last: u32) -> Option<u32>
     ensures { result ≡ at_most last i }
 {
-    if i <= last { Some(i) } else { None }
+    u32::try_from(i).ok().filter(|i| *i <= last)
 }
 
-/// The first bit of the kind from `from` to `last`.
-pub fn next(bytes: &[u8], bit: Bit, from: u32, last: u32) -> Option<u32>
+/// The first bit of the sort from `from` to `last`.
+pub fn next(bytes: &[u8], sort: Sort, from: u32, last: u32) -> Option<u32>
     requires first { 1 ≤ from }
     requires within { last ≤ 8 * length bytes.now }
-    requires small { length bytes.now ≤ 16384 }
-    ensures { result ≡ first_from (is_bit bytes.now bit) from (suc last - from) }
+    ensures { result ≡ first_from (is_bit bytes.now sort) from (suc last - from) }
 {
     if from > last {
         return None;
     }
     let p = from - 1;
-    let v = word(bytes, bit, 8 * (p / 64) as usize) >> (p % 64);
+    let v = word(bytes, sort, 8 * (p / 64) as usize) >> (p % 64);
     if v != 0 {
-        return at_most(from + v.trailing_zeros(), last);
+        return at_most(from as u64 + v.trailing_zeros() as u64, last);
     }
-    for w in p / 64 + 1..(last + 63) / 64 {
-        let x = word(bytes, bit, 8 * w as usize);
+    for w in p / 64 + 1..last.div_ceil(64) {
+        let x = word(bytes, sort, 8 * w as usize);
         if x != 0 {
-            return at_most(64 * w + 1 + x.trailing_zeros(), last);
+            return at_most(64 * w as u64 + 1 + x.trailing_zeros() as u64, last);
         }
     }
     None
 }
 
-/// The last bit of the kind from 1 to `from`.
-pub fn previous(bytes: &[u8], bit: Bit, from: u32) -> Option<u32>
+/// The last bit of the sort from 1 to `from`.
+pub fn previous(bytes: &[u8], sort: Sort, from: u32) -> Option<u32>
     requires within { from ≤ 8 * length bytes.now }
-    requires small { length bytes.now ≤ 16384 }
-    ensures { result ≡ last_to (is_bit bytes.now bit) from }
+    ensures { result ≡ last_to (is_bit bytes.now sort) from }
 {
-    let mut at = from;
-    while at > 0 {
-        let p = at - 1;
-        let w = p / 64;
-        let v = word(bytes, bit, 8 * w as usize) & (u64::MAX >> (63 - p % 64));
-        if v != 0 {
-            return Some(64 * w + 64 - v.leading_zeros());
+    let p = from.checked_sub(1)?;
+    let v = word(bytes, sort, 8 * (p / 64) as usize) & (u64::MAX >> (63 - p % 64));
+    if v != 0 {
+        return Some(64 * (p / 64) + (64 - v.leading_zeros()));
+    }
+    for w in (0..p / 64).rev() {
+        let x = word(bytes, sort, 8 * w as usize);
+        if x != 0 {
+            return Some(64 * w + (64 - x.leading_zeros()));
         }
-        at = 64 * w;
     }
     None
 }

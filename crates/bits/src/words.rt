@@ -1,9 +1,9 @@
 // Single bits, and 64 bits at a time as a number.
-ghost use Rattle.std.specs.Prelude.{◌≡◌, ◌+◌, ◌*◌, ◌≤◌, length};
+ghost use Rattle.std.specs.Prelude.{◌≡◌, ◌+◌, ◌*◌, ◌<◌, ◌≤◌, length, slice_index};
 ghost use Rattle.bits.specs.Bits.{bit_at, is_bit};
 ghost use Rattle.bits.specs.Words.{Holds};
 
-use super::bit::Bit;
+use sets::Sort;
 
 /// Bit `i`.
 pub fn get(bytes: &[u8], i: u32) -> bool
@@ -20,16 +20,20 @@ pub(crate) fn whole_word(bytes: &[u8], j: usize) -> u64
     requires within { j + 8 ≤ length bytes.now }
     ensures { Holds (bit_at bytes.now) (8 * j) 64 result }
 {
-    u64::from_le_bytes([
-        bytes[j],
-        bytes[j + 1],
-        bytes[j + 2],
-        bytes[j + 3],
-        bytes[j + 4],
-        bytes[j + 5],
-        bytes[j + 6],
-        bytes[j + 7],
-    ])
+    let Some(eight) = bytes[j..].first_chunk() else {
+        unreachable!()
+    };
+    u64::from_le_bytes(*eight)
+}
+
+// The bytes, and zeros behind them.
+fn padded(bytes: &[u8]) -> [u8; 8]
+    requires short { length bytes.now ≤ 8 }
+    ensures { (k : _) → k < 8 → slice_index result k ≡ slice_index bytes.now k }
+{
+    let mut eight = [0; 8];
+    eight[..bytes.len()].copy_from_slice(bytes);
+    eight
 }
 
 // The same where at most 8 bytes are left: the bits past the last byte are 0.
@@ -38,25 +42,21 @@ fn last_word(bytes: &[u8], j: usize) -> u64
     requires short { length bytes.now ≤ j + 8 }
     ensures { Holds (bit_at bytes.now) (8 * j) 64 result }
 {
-    let mut w: u64 = 0;
-    for k in (j..bytes.len()).rev() {
-        w = w * 256 + bytes[k] as u64;
-    }
-    w
+    u64::from_le_bytes(padded(&bytes[j..]))
 }
 
-// The 64 bits from byte `j` on, each as 1 where it is of the kind, and as 0 where it is not.
-pub(crate) fn word(bytes: &[u8], bit: Bit, j: usize) -> u64
+// The 64 bits from byte `j` on, each as 1 where it is of the sort, and as 0 where it is not.
+pub(crate) fn word(bytes: &[u8], sort: Sort, j: usize) -> u64
     requires within { j ≤ length bytes.now }
-    ensures { Holds (is_bit bytes.now bit) (8 * j) 64 result }
+    ensures { Holds (is_bit bytes.now sort) (8 * j) 64 result }
 {
     let w = if bytes.len() - j >= 8 {
         whole_word(bytes, j)
     } else {
         last_word(bytes, j)
     };
-    match bit {
-        Bit::One => w,
-        Bit::Zero => !w,
+    match sort {
+        Sort::Members => w,
+        Sort::Others => !w,
     }
 }

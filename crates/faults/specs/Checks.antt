@@ -16,17 +16,16 @@ abbrev pub range_check : Flaw → ℕ → ℕ → ℕ → Check
 range_check flaw low high x = cond (nat_le low x) (cond (nat_le x high) (Ok tt) (Err flaw)) (Err flaw)
 
 abbrev pub last_check : ℕ → Check
-last_check last = cond (nat_le 1 last) (cond (nat_le last 65535) (Ok tt) (Err Numbers)) (Err Numbers)
-
--- a last bay is taken exactly if a garage may have it
-abbrev pub LastIs : ℕ → Check → Type 0
-LastIs last (Ok _) = LastBay last
-LastIs last (Err e) = FlawBy 1 e (LastBay last → ⊥)
+last_check last = range_check Numbers 1 65535 last
 
 -- the check answers by this number exactly if this does not hold
 abbrev pub CheckIs : ℕ → Type 0 → Check → Type 0
 CheckIs n P (Ok _) = P
 CheckIs n P (Err e) = FlawBy n e (P → ⊥)
+
+-- a last bay is taken exactly if a garage may have it
+abbrev pub LastIs : ℕ → Check → Type 0
+LastIs last = CheckIs 1 (LastBay last)
 
 -- what was looked for is a flaw where it is found
 abbrev pub none_found : Flaw → Option ℕ → Check

@@ -1,20 +1,20 @@
 // The refusals and the faults.
 
-/// What is wrong with what was handed in to open or to fill an index.
+/// What is wrong with what was handed in to open or to fill an index, with the number by which it is refused.
 #[derive(Clone, Copy, PartialEq, Eq, Debug)]
 pub enum Flaw {
     /// The last bay is 0 or above 65,535, or there are more members than bays.
-    Numbers,
+    Numbers = 1,
     /// A part has another length than its layout.
-    Length,
+    Length = 2,
     /// A bit after the last is 1, or a list is not strictly rising within its bays.
-    Content,
+    Content = 3,
     /// The block size is below 2 or above 4,096.
-    BlockSize,
+    BlockSize = 4,
     /// A memory is too short.
-    Room,
+    Room = 5,
     /// The parts do not make an index.
-    Unlawful,
+    Unlawful = 6,
 }
 
 /// The forms of an index.
@@ -38,17 +38,17 @@ pub struct Fault {
     pub part: u8,
 }
 
-/// Why a call on sets refuses its arguments.
+/// Why a call on sets refuses its arguments, with the number of the refusal.
 #[derive(Clone, Copy, PartialEq, Eq, Debug)]
 pub enum Refusal {
     /// A bay, the k of a k-th bay or a place is 0, or the first bay is above the last.
-    NoBay,
+    NoBay = 7,
     /// There is no such sign.
-    NoSign,
+    NoSign = 8,
     /// A bay or a sign's post is beyond the last bay, or a place beyond the one behind it.
-    Beyond,
+    Beyond = 9,
     /// The place lies behind the present one.
-    Behind,
+    Behind = 10,
     /// There are not so many members.
-    TooFew,
+    TooFew = 11,
 }

@@ -3,7 +3,10 @@
 
 mod fault;
 mod number;
+mod part;
+mod range;
 mod text;
 
 pub use fault::{Fault, Flaw, Form, Refusal};
-pub use number::{Located, check_last};
+pub use part::Located;
+pub use range::{check_last, check_range};

@@ -1,4 +1,6 @@
 // Which of a pair of indexes was refused, and why.
+ghost use Rattle.std.specs.Prelude.{◌≡◌};
+
 use faults::Fault;
 
 /// The two indexes of a pair: the free bays and the bays of a class.
@@ -13,4 +15,13 @@ pub enum Side {
 pub struct PairFault {
     pub side: Side,
     pub fault: Fault,
+}
+
+impl Side {
+    // A fault of the index of this side.
+    pub(crate) fn of(self, fault: Fault) -> PairFault
+        ensures { result ≡ record { side = self; fault = fault } }
+    {
+        PairFault { side: self, fault }
+    }
 }

@@ -4,10 +4,8 @@
 mod fault;
 mod opens;
 mod pair;
-mod side;
 mod text;
 
 pub use fault::{PairFault, Side};
 pub use opens::Opens;
 pub use pair::open_pair;
-pub use side::Sided;

@@ -5,7 +5,6 @@ ghost use Rattle.opening.specs.Places.{Placed};
 
 use super::fault::{PairFault, Side};
 use super::opens::Opens;
-use super::side::Sided;
 
 /// Puts the indexes of two sources in the places of two open ones: F's and then C's. If either is refused, both are as they were.
 pub fn open_pair<X: Opens>(
@@ -20,9 +19,9 @@ pub fn open_pair<X: Opens>(
     ensures means { Placed result ((X.Walking.meant f.new ≡ X.Opens.decoding f_source) × (X.Walking.meant c.new ≡ X.Opens.decoding c_source)) ((f.new ≡ f.old) × (c.new ≡ c.old)) }
 {
     let mut new_f = *f;
-    new_f.open_from(f_source).of(Side::F)?;
+    new_f.open(f_source).map_err(|fault| Side::F.of(fault))?;
     let mut new_c = *c;
-    new_c.open_from(c_source).of(Side::C)?;
+    new_c.open(c_source).map_err(|fault| Side::C.of(fault))?;
     *f = new_f;
     *c = new_c;
     Ok(())

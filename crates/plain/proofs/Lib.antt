@@ -1,3 +1,2 @@
 -- The lemmas of this crate.
-pub mod Decoded
 pub mod Blank

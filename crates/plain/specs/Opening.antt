@@ -1,11 +1,10 @@
 -- What opening a plain index answers, and what stands afterwards.
-use Rattle.std.specs.Prelude.{◌≡◌, ℕ, ◌⊎◌, List, Ok, Err}
+use Rattle.std.specs.Prelude.{ℕ, ◌⊎◌, List, Ok, Err}
 use Rattle.faults.specs.Checks.{Verdict, last_check, located, first_of}
 use Rattle.faults.specs.Numbers.{FaultBy}
 use Rattle.faults.specs.declared.fault.Form as forms
 use Rattle.sets.specs.Sets.{LastBay}
 use Rattle.bits.specs.Checks.{bits_check, Whole, Clear, Spare}
-use Rattle.plain.specs.declared.index.Plain.{Plain}
 
 -- the numbers are part 0, the bitvector is part 1
 abbrev pub opening : ℕ → List ℕ → Verdict
@@ -22,8 +21,3 @@ OpeningIs u bytes (Err e) =
     FaultBy 1 forms.TheVariants.Plain 0 e (LastBay u → ⊥)
     ⊎ (FaultBy 2 forms.TheVariants.Plain 1 e (LastBay u × (Whole u bytes → ⊥))
     ⊎ FaultBy 3 forms.TheVariants.Plain 1 e (LastBay u × Whole u bytes × Spare u bytes))
-
--- the new index, whole, or after a refusal the old one
-abbrev pub Opened : Verdict → Plain → Plain → ℕ → List ℕ → Type 0
-Opened (Ok _) old new u bytes = (new.last ≡ u) × (new.bits.now ≡ bytes)
-Opened (Err _) old new u bytes = new ≡ old

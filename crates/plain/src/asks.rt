@@ -1,5 +1,7 @@
 // The six questions, asked of the bits.
-ghost use Rattle.plain.specs.Decoding.{set_of, set_sized};
+ghost use Rattle.bits.specs.Bits.{bit_at};
+ghost use Rattle.plain.specs.Decoding.{set_of};
+ghost use Rattle.sets.specs.Made.{made_sized};
 
 use super::index::Plain;
 use sets::{Counting, Sort, Walking};
@@ -7,7 +9,7 @@ use sets::{Counting, Sort, Walking};
 impl<'a> Walking for Plain<'a> {
     ghost meant = { λ p. set_of p.last p.bits.now };
 
-    ghost sized = { λ p. set_sized p.last p.bits.now p.sized };
+    ghost sized = { λ p. made_sized p.last (bit_at p.bits.now) p.sized };
 
     fn last(&self) -> u32 {
         self.last
@@ -21,25 +23,21 @@ impl<'a> Walking for Plain<'a> {
     }
 
     fn next(&self, sort: Sort, i: u32) -> Option<u32> {
-        bits::next(self.bits, sort.into(), i.max(1), self.last)
+        bits::next(self.bits, sort, i.max(1), self.last)
     }
 
     fn previous(&self, sort: Sort, i: u32) -> Option<u32> {
-        bits::previous(self.bits, sort.into(), i.min(self.last))
+        bits::previous(self.bits, sort, i.min(self.last))
     }
 }
 
 impl<'a> Counting for Plain<'a> {
     fn rank(&self, sort: Sort, i: u32) -> u32 {
         let to = i.min(self.last);
-        let members = bits::ones(self.bits, to);
-        match sort {
-            Sort::Members => members,
-            Sort::Others => to - members,
-        }
+        sort.share(bits::ones(self.bits, to), to)
     }
 
     fn select(&self, sort: Sort, n: u32) -> Option<u32> {
-        bits::kth(self.bits, sort.into(), n, self.last)
+        bits::kth(self.bits, sort, n, self.last)
     }
 }

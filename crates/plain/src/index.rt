@@ -3,7 +3,7 @@ ghost use Rattle.bits.specs.Checks.{Whole, Clear};
 ghost use Rattle.sets.specs.Sets.{LastBay};
 
 /// The bays 1 to `last`, and a bitvector in the caller's memory: bit i is 1 exactly if bay i is a member.
-#[derive(Clone, Copy)]
+#[derive(Clone, Copy, PartialEq, Eq, Debug)]
 pub struct Plain<'a> {
     pub(crate) last: u32,
     pub(crate) bits: &'a [u8],

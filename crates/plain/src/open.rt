@@ -1,11 +1,13 @@
-// Opening a plain index from the caller's memory.
+// The built-in plain index, and opening one from the caller's memory.
 ghost use Rattle.std.specs.Prelude.{◌≡◌, false, [], ◌∷◌};
 ghost use Rattle.plain.specs.Decoding.{set_of, Decodes};
-ghost use Rattle.plain.specs.Opening.{opening, OpeningIs, Opened};
+ghost use Rattle.plain.specs.Opening.{opening, OpeningIs};
 
 use super::index::Plain;
+use super::source::PlainSource;
 use bits::check;
 use faults::{Fault, Form, Located, check_last};
+use opening::Opens;
 
 const NO_MEMBER: [u8; 1] = [0];
 
@@ -21,14 +23,23 @@ impl<'a> Plain<'a> {
             bits: &NO_MEMBER,
         }
     }
+}
 
-    /// Puts the index of the bays 1 to `last` and their bits in the place of this one.
-    pub fn open(&mut self, last: u32, bits: &'a [u8]) -> Result<(), Fault>
-        ensures answer { result ≡ opening last bits.now }
-        ensures law { OpeningIs last bits.now result }
-        ensures means { Decodes last bits.now (set_of last bits.now) }
-        ensures place { Opened result self.old self.new last bits.now }
-    {
+impl<'a> Opens for Plain<'a> {
+    type Source = PlainSource<'a>;
+
+    ghost verdict = { λ s. opening s.last s.bits.now };
+
+    ghost due = { λ s. OpeningIs s.last s.bits.now };
+
+    ghost decoding = { λ s. set_of s.last s.bits.now };
+
+    ghost decodes = { λ s. Decodes s.last s.bits.now };
+
+    ghost holding = { λ p s. (p.last ≡ s.last) × (p.bits.now ≡ s.bits.now) };
+
+    fn open(&mut self, source: PlainSource<'a>) -> Result<(), Fault> {
+        let PlainSource { last, bits } = source;
         check_last(last).at(Form::Plain, 0)?;
         check(bits, last).at(Form::Plain, 1)?;
         *self = Plain { last, bits };

@@ -6,4 +6,5 @@ pub mod Joins
 pub mod Ranks
 pub mod Same
 pub mod Only
+pub mod Sharing
 pub mod Made

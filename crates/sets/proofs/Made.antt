@@ -3,13 +3,14 @@ use Rattle.std.proofs.Common.{◌≡◌, ℕ, suc, ◌-◌, ◌<◌, ◌≤◌, 
 use Rattle.std.proofs.lemmas.List.FromFn.{get_or-map-range_with_len}
 use Rattle.std.proofs.lemmas.Bool.{cases_lt}
 use Rattle.sets.specs.declared.Sort.{Sort}
-use Rattle.sets.specs.declared.Sort.TheVariants.{Members, Others}
+use Rattle.sets.specs.declared.Sort.TheVariants.{Members}
 use Rattle.sets.specs.Search.{first_from, last_to, count_to, kth_to}
-use Rattle.sets.specs.Sets.{is, fits, next_of, previous_of, rank_of, select_of}
+use Rattle.sets.specs.Sets.{is, fits, share, next_of, previous_of, rank_of, select_of}
 use Rattle.sets.specs.Made.{set_by, made_length, MadeBy, of_sort}
 use Rattle.sets.proofs.Bays.{is_inside, is_beyond}
 use Rattle.sets.proofs.Only.{next_zero, previous_beyond, rank_beyond}
-use Rattle.sets.proofs.Tests.{first_agree, last_agree, count_agree, kth_agree, count_others}
+use Rattle.sets.proofs.Tests.{first_agree, last_agree, count_agree, kth_agree}
+use Rattle.sets.proofs.Sharing.{count_share}
 
 module _ (u : ℕ) (f : ℕ → Bool) where
   pub made_is : (k : Sort) (i : ℕ) → 1 ≤ i → i ≤ u → is (set_by u f) k i ≡ of_sort k f i
@@ -67,9 +68,9 @@ module _ (u : ℕ) (f : ℕ → Bool) where
       sym (count_agree (is (set_by u f) k) (of_sort k f) (min i u) (λ j l g. made_is k j l (omega arith)))
       ∙ to_last (rank_of (set_by u f) k) i (rank_beyond (set_by u f) k i)
 
-  -- the non-members are those that are left
-  pub made_rank_others : (i n : ℕ) → n ≡ count_to f (min i u) → min i u - n ≡ rank_of (set_by u f) Others i
-  made_rank_others i n e = omega (arith, e, count_others f (min i u), made_rank Others i)
+  -- of the first bays, as many of a sort as its share is, where n of them are members
+  pub made_share : (k : Sort) (i n : ℕ) → n ≡ count_to f (min i u) → share k n (min i u) ≡ rank_of (set_by u f) k i
+  made_share k i n e = ap (λ m. share k m (min i u)) e ∙ sym (count_share f k (min i u)) ∙ made_rank k i
 
   pub made_select : (k : Sort) (n : ℕ) → kth_to (of_sort k f) n u ≡ select_of (set_by u f) k n
   unfolding select_of

@@ -10,6 +10,11 @@ abbrev pub fits : Sort → Bool → Bool
 fits Members b = b
 fits Others b = not b
 
+-- how many of n bays are of the sort, where m of them are members
+abbrev pub share : Sort → ℕ → ℕ → ℕ
+share Members m n = m
+share Others m n = n - m
+
 -- bay i is of the sort; 0 and what lies beyond the last bay are of neither
 unfoldable pub is : List Bool → Sort → ℕ → Bool
 is s k zero = false

@@ -5,7 +5,11 @@ ghost use Rattle.std.specs.Prelude.{◌≡◌, Bool, List, length};
 ghost use Rattle.sets.specs.Laws.{SortsPart, NextSmallest, PreviousLargest, RankCounts, SelectRanks, LawsDecide, SetsByMembers};
 ghost use Rattle.sets.specs.Sets.{is_member, next_of, previous_of, rank_of, select_of, Sized};
 
+mod halving;
 mod lent;
+mod shares;
+
+pub use halving::partition_point;
 
 /// The bays of a garage that are in a set, or those that are not.
 #[derive(Clone, Copy, PartialEq, Eq, Debug)]

@@ -10,7 +10,7 @@ pub returns-then-k-eq0 : goal.returns-then-k-eq0
 returns-then-k-eq0 c = kth_by _ _ _ None (inl c.if-k-eq0.true)
 
 pub loop-w-init : goal.loop-w-init
-loop-w-init c = (omega arith, omega (arith, count_none (is_bit c.args.bytes.now c.args.bit)))
+loop-w-init c = (omega arith, omega (arith, count_none (is_bit c.args.bytes.now c.args.sort)))
 
 pub returns-then-left-n : goal.returns-then-left-n
 returns-then-left-n c =
@@ -22,7 +22,7 @@ returns-then-left-n c =
 pub loop-w-preserved : goal.loop-w-preserved
 loop-w-preserved c =
     let e : 8 * (8 * c.loop-w.w) + 64 ≡ 8 * (8 * (c.loop-w.w + 1)) = omega arith in
-    (omega arith, omega (arith, count_all _ _ 64 _ c.word-v.ensures, ap (count_to (is_bit c.args.bytes.now c.args.bit)) e))
+    (omega arith, omega (arith, count_all _ _ 64 _ c.word-v.ensures, ap (count_to (is_bit c.args.bytes.now c.args.sort)) e))
 
 pub returns : goal.returns
-returns c = kth_by _ _ _ None (inr (omega (arith, count_mono (is_bit c.args.bytes.now c.args.bit) c.args.last (8 * (8 * c.loop-w.w)) (omega arith))))
+returns c = kth_by _ _ _ None (inr (omega (arith, count_mono (is_bit c.args.bytes.now c.args.sort) c.args.last (8 * (8 * c.loop-w.w)) (omega arith))))

@@ -2,7 +2,7 @@
 use Rattle.std.proofs.Common.{sym, ◌∙◌, arith}
 use Rattle.sets.specs.declared.Sort.TheVariants.{Members}
 use Rattle.sets.proofs.Bays.{is_none}
-use Rattle.plain.proofs.Decoded.{set_is, set_outside}
+use Rattle.sets.proofs.Made.{made_is, made_outside}
 use Rattle.plain.proofs.asks.PlainWalking.holds.Goals as goal
 use Rattle.plain.proofs.asks.PlainWalking.holds.Goals.{then-i-eq0-via-then-i-eq0, then-i-eq0-via-else-i-eq0+then-i-self}
 
@@ -10,9 +10,8 @@ pub returns-then-i-eq0 : goal.returns-then-i-eq0
 returns-then-i-eq0 c =
     elim c.then-i-eq0.branch [
       | then-i-eq0-via-then-i-eq0 w ↦ sym (is_none _ _ _ w.if-i-eq0.true)
-      | then-i-eq0-via-else-i-eq0+then-i-self w ↦ sym (set_outside _ _ _ _ w.if-i-self.true)
+      | then-i-eq0-via-else-i-eq0+then-i-self w ↦ sym (made_outside _ _ _ _ w.if-i-self.true)
     ]
 
 pub returns : goal.returns
-returns c =
-    c.get.ensures ∙ sym (set_is c.args.self.now.last c.args.self.now.bits.now Members c.args.i (omega arith) (omega arith))
+returns c = c.get.ensures ∙ sym (made_is _ _ Members _ (omega arith) (omega arith))
