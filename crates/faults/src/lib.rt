@@ -2,9 +2,10 @@
 #![tactic(auto)]
 
 mod fault;
-mod number;
+mod flaw_number;
 mod part;
 mod range;
+mod refusal_number;
 mod text;
 
 pub use fault::{Fault, Flaw, Form, Refusal};
