@@ -35,6 +35,7 @@ pub enum Form {
 pub struct Fault {
     pub flaw: Flaw,
     pub form: Form,
+    // A number, since the number is what is told: a kind for each would only spell it out.
     pub part: u8,
 }
 

@@ -23,9 +23,6 @@ pub trait Walking {
     // The set that a value stands for.
     ghost meant: { Self → List Bool };
 
-    // What each implementation owes: the last bay is from 1 to 65,535.
-    ghost sized: { (x : Self) → Sized (meant x) };
-
     /// The last bay.
     fn last(&self) -> u32
         ensures { result ≡ length (meant self.now) };
@@ -41,6 +38,9 @@ pub trait Walking {
     /// The largest bay of the sort at or before `i`; beyond the last bay is read as the last.
     fn previous(&self, sort: Sort, i: u32) -> Option<u32>
         ensures { result ≡ previous_of (meant self.now) sort i };
+
+    // Each implementation proves: the last bay is from 1 to 65,535.
+    ghost sized: { (x : Self) → Sized (meant x) };
 }
 
 /// A walking set that can also count.
