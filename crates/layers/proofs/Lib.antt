@@ -2,4 +2,3 @@
 pub mod Turns
 pub mod Shifts
 pub mod Levels
-pub mod Making

@@ -1,10 +1,11 @@
 -- What is asked of a set turned is asked of the other sort of the set.
-use Rattle.std.proofs.Common.{◌≡◌, ℕ, suc, ◌-◌, ◌≤◌, Bool, true, false, not, List, length, get_or, sym, refl, ap, ◌∙◌, ⊎_elim, arith}
+use Rattle.std.proofs.Common.{◌≡◌, ℕ, suc, ◌-◌, ◌<◌, ◌≤◌, Bool, true, false, not, List, length, get_or, sym, refl, ap, ◌∙◌, ⊎_elim, arith}
 use Rattle.std.proofs.lemmas.Bool.{cases_lt}
+use Rattle.std.proofs.lemmas.Bool.Decides.{nat_tests}
 use Rattle.sets.specs.declared.Sort.{Sort}
 use Rattle.sets.specs.declared.Sort.TheVariants.{Members, Others}
 use Rattle.sets.specs.Search.{first_from, last_to, count_to, kth_to}
-use Rattle.sets.specs.Sets.{is, fits, next_of, previous_of, rank_of, select_of}
+use Rattle.sets.specs.Sets.{is, is_member, fits, next_of, previous_of, rank_of, select_of}
 use Rattle.sets.specs.Made.{made_length}
 use Rattle.sets.proofs.Bays.{is_inside, is_beyond, is_none}
 use Rattle.sets.proofs.Made.{made_is, made_outside}
@@ -51,3 +52,18 @@ module _ (s : List Bool) (k : Sort) where
   pub select_turned : (n : ℕ) → select_of (turned s) k n ≡ select_of s (other k) n
   unfolding select_of
   select_turned n = λ t. kth_to (λ b. turned_is s k b t) n (turned_length s t)
+
+-- a bay is a member turned exactly if it is a bay and no member beneath
+pub turned_member : (s : List Bool) (i : ℕ) → 1 ≤ i → i ≤ length s → not (is_member s i) ≡ is_member (turned s) i
+turned_member s i low high =
+    ap not (is_inside s Members i low high) ∙ sym (is_inside s Others i low high) ∙ sym (turned_is s Members i)
+
+pub turned_zero : (s : List Bool) (i : ℕ) → i ≡ 0 → is_member (turned s) i ≡ false
+turned_zero s i none = turned_is s Members i ∙ is_none s Others i none
+
+pub turned_beyond : (s : List Bool) (i : ℕ) → length s < i → is_member (turned s) i ≡ false
+turned_beyond s i beyond = turned_is s Members i ∙ is_beyond s Others i beyond
+
+-- what the questions of a set turned take
+pub ruleset turning =
+    (nat_tests, turned_length, turned_is, turned_member, turned_zero, turned_beyond, next_turned, previous_turned, rank_turned, select_turned)

@@ -1,5 +1,5 @@
 -- The sets that layers over a set stand for.
-use Rattle.std.specs.Prelude.{ℕ, ◌+◌, ◌-◌, min, max, Bool, List, length}
+use Rattle.std.specs.Prelude.{◌≡◌, ℕ, ◌+◌, ◌-◌, ◌≤◌, min, max, Bool, List, length}
 use Rattle.std.proofs.Common.{arith}
 use Rattle.sets.specs.declared.Sort.{Sort}
 use Rattle.sets.specs.declared.Sort.TheVariants.{Members, Others}
@@ -29,6 +29,10 @@ level a b s = set_by (b - a + 1) (λ i. is_member s (a + i - 1))
 abbrev pub LevelIs : ℕ → ℕ → List Bool → List Bool → Type 0
 LevelIs a b s t = MadeBy (b - a + 1) (λ i. is_member s (a + i - 1)) t
 
+-- two numbers that are bays of the set, the first not above the last
+abbrev pub BaysOf : ℕ → ℕ → List Bool → Type 0
+BaysOf a b s = (1 ≤ a) × (a ≤ b) × (b ≤ length s)
+
 -- any two numbers, cut to bays of the set of which the first is not above the last
 abbrev pub first_in : ℕ → List Bool → ℕ
 first_in a s = max 1 (min a (length s))
@@ -38,6 +42,10 @@ last_in a b s = max (first_in a s) (min b (length s))
 
 abbrev pub level_in : ℕ → ℕ → List Bool → List Bool
 level_in a b s = level (first_in a s) (last_in a b s) s
+
+-- the bays c to d are the bays a to b, cut to bays of the set
+abbrev pub IsCut : ℕ → ℕ → List Bool → ℕ → ℕ → Type 0
+IsCut a b s c d = (c ≡ first_in a s) × (d ≡ last_in a b s)
 
 pub level_sized : (a b : ℕ) (s : List Bool) → Sized s → Sized (level_in a b s)
 level_sized a b s h =

@@ -6,18 +6,24 @@ use Rattle.faults.specs.declared.fault.Refusal.TheVariants.{NoBay, Beyond}
 use Rattle.layers.specs.declared.level.Level.{Level}
 use Rattle.layers.specs.Layers.{LevelIs, level_in}
 
--- the level of the bays a to b over a set of u bays, or the set itself with the refusal
+-- a set with the first and the last bay of its level, or the set itself with the refusal
 abbrev pub Levelled : Type 0 → Type 0
-Levelled S = Result (Level S) (S × Refusal)
+Levelled S = Result (S × ℕ × ℕ) (S × Refusal)
 
+-- the level of the bays a to b over a set of u bays
 abbrev pub levelling : {S : Type 0} → S → ℕ → ℕ → ℕ → Levelled S
 levelling below u a b =
     cond (nat_le 1 a)
-    (cond (nat_le a b) (cond (nat_le b u) (Ok (record { below = below; first = a; last = b })) (Err (below, Beyond))) (Err (below, NoBay)))
+    (cond (nat_le a b) (cond (nat_le b u) (Ok (below, a, b)) (Err (below, Beyond))) (Err (below, NoBay)))
     (Err (below, NoBay))
 
+-- a level is its set and its two bays, and no more
+abbrev pub answered : {S : Type 0} {m : _} → Result (Level S m) (S × Refusal) → Levelled S
+answered (Ok x) = Ok (x.below, x.first, x.last)
+answered (Err e) = Err e
+
 -- which refusal comes for which reason, with the very set; and else the level is over that set and stands for its bays a to b
-abbrev pub LevellingIs : {S : Type 0} → (S → List Bool) → S → ℕ → ℕ → Levelled S → Type 0
+abbrev pub LevellingIs : {S : Type 0} {m : _} → (S → List Bool) → S → ℕ → ℕ → Result (Level S m) (S × Refusal) → Type 0
 LevellingIs meant below a b (Ok x) =
     (1 ≤ a) × (a ≤ b) × (b ≤ length (meant below)) × (x.below ≡ below)
     × LevelIs a b (meant below) (level_in x.first x.last (meant x.below))

@@ -1,4 +1,6 @@
 // The six questions of a level, asked of the set beneath.
+#![tactic(auto, using(crate::proofs::Levels::levels))]
+
 ghost use Rattle.layers.specs.Layers.{level_in, level_sized};
 
 use super::level::Level;
@@ -10,40 +12,34 @@ impl<S: Counting> Walking for Level<S> {
     ghost sized = { λ x. level_sized x.first x.last (S.Walking.meant x.below) (S.Walking.sized x.below) };
 
     fn last(&self) -> u32 {
-        self.span().last
+        self.last - self.before()
     }
 
     fn holds(&self, i: u32) -> bool {
-        let span = self.span();
-        if i == 0 || i > span.last {
-            return false;
-        }
-        self.below.holds(span.before + i)
+        let bay = self.beneath(i);
+        (self.first..=self.last).contains(&bay) && self.below.holds(bay)
     }
 
     fn next(&self, sort: Sort, i: u32) -> Option<u32> {
-        let span = self.span();
-        let from = span.before + i.clamp(1, span.last + 1);
-        span.lift(self.below.next(sort, from))
+        let from = self.beneath(i.max(1));
+        self.lift(self.below.next(sort, from))
     }
 
     fn previous(&self, sort: Sort, i: u32) -> Option<u32> {
-        let span = self.span();
-        let to = span.before + i.min(span.last);
-        span.lift(self.below.previous(sort, to))
+        let to = self.beneath(i).min(self.last);
+        self.lift(self.below.previous(sort, to))
     }
 }
 
 impl<S: Counting> Counting for Level<S> {
     fn rank(&self, sort: Sort, i: u32) -> u32 {
-        let span = self.span();
-        let before = self.below.rank(sort, span.before);
-        self.below.rank(sort, span.before + i.min(span.last)) - before
+        let to = self.beneath(i).min(self.last);
+        let before = self.below.rank(sort, self.before());
+        self.below.rank(sort, to) - before
     }
 
     fn select(&self, sort: Sort, n: u32) -> Option<u32> {
-        let span = self.span();
-        let before = self.below.rank(sort, span.before);
-        span.lift(self.below.select(sort, before.saturating_add(n)))
+        let before = self.below.rank(sort, self.before());
+        self.lift(self.below.select(sort, before.saturating_add(n)))
     }
 }

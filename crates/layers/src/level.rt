@@ -1,10 +1,13 @@
 // A level: some bays of the set beneath, counted from 1.
-use sets::Counting;
+ghost use Rattle.layers.specs.Layers.{BaysOf};
+
+use sets::{Counting, Walking};
 
 /// The bays `first` to `last` of a set, counted from 1.
-#[derive(Drop, Clone, Copy)]
+#[derive(Drop, Copy)]
 pub struct Level<S: Counting> {
     pub(crate) below: S,
     pub(crate) first: u32,
     pub(crate) last: u32,
+    ghost bays: { BaysOf first last (S.Walking.meant below) },
 }

@@ -2,9 +2,10 @@
 #![tactic(auto)]
 
 mod asks;
+mod clone;
 mod level;
 mod make;
-mod span;
+mod place;
 mod turned;
 
 pub use level::Level;

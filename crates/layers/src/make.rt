@@ -1,6 +1,6 @@
 // Making a level, and taking it away again.
 ghost use Rattle.std.specs.Prelude.{◌≡◌, length};
-ghost use Rattle.layers.specs.Levelling.{levelling, LevellingIs};
+ghost use Rattle.layers.specs.Levelling.{answered, levelling, LevellingIs};
 
 use super::level::Level;
 use faults::Refusal;
@@ -9,7 +9,7 @@ use sets::{Counting, Walking};
 impl<S: Counting> Level<S> {
     /// The layer of the bays `a` to `b` of a set; a refusal gives the set back.
     pub fn new(below: S, a: u32, b: u32) -> Result<Level<S>, (S, Refusal)>
-        ensures answer { result ≡ levelling below (length (S.Walking.meant below)) a b }
+        ensures answer { answered result ≡ levelling below (length (S.Walking.meant below)) a b }
         ensures law { LevellingIs S.Walking.meant below a b result }
     {
         if a == 0 || a > b {
@@ -29,7 +29,6 @@ impl<S: Counting> Level<S> {
     pub fn into_below(self) -> S
         ensures { result ≡ self.below }
     {
-        let Level { below, .. } = self;
-        below
+        self.below
     }
 }

@@ -1,4 +1,6 @@
 // A set whose members are the non-members of the set beneath.
+#![tactic(auto, using(crate::proofs::Turns::turning))]
+
 ghost use Rattle.std.specs.Prelude.{◌≡◌};
 ghost use Rattle.layers.specs.Layers.{other, turned, turned_sized, TurnedIs};
 
@@ -23,12 +25,11 @@ impl<S: Counting> Turned<S> {
     pub fn into_below(self) -> S
         ensures { result ≡ self.below }
     {
-        let Turned { below } = self;
-        below
+        self.below
     }
 }
 
-// The other sort.
+// The other sort; an `impl Not` would have to stand beside `Sort`, for these layers alone.
 fn turn(sort: Sort) -> Sort
     ensures { result ≡ other sort }
 {
@@ -48,10 +49,7 @@ impl<S: Counting> Walking for Turned<S> {
     }
 
     fn holds(&self, i: u32) -> bool {
-        if i == 0 || i > self.below.last() {
-            return false;
-        }
-        !self.below.holds(i)
+        (1..=self.below.last()).contains(&i) && !self.below.holds(i)
     }
 
     fn next(&self, sort: Sort, i: u32) -> Option<u32> {

@@ -1,28 +1,20 @@
 -- What a list that rises within its bays is by its places, and that the test of it decides.
-use Rattle.std.proofs.Common.{◌≡◌, ℕ, zero, suc, ◌+◌, ◌<◌, ◌≤◌, true, false, ◌&&◌, ◌⊎◌, List, [], ◌∷◌, length, get_or, drop, refl, ◌∙◌, ⊎_elim, arith}
+use Rattle.std.proofs.Common.{◌≡◌, ℕ, zero, suc, ◌+◌, ◌<◌, ◌≤◌, true, false, ◌&&◌, List, [], ◌∷◌, length, get_or, drop, refl, ◌∙◌, ⊎_elim, arith}
 use Rattle.std.proofs.lemmas.List.{at_drop_more, at_drop_all}
-use Rattle.std.proofs.lemmas.Bool.{and_parts, and_from, and_left, and_right, leb-true, le-leb, lt-leb}
+use Rattle.std.proofs.lemmas.Bool.{and_parts, and_from, and_left, and_right, leb-true, le-leb, lt-leb, cases_lt}
 use Rattle.sets.specs.Lists.{Each, Rising}
 use Rattle.list.specs.Lawful.{RisesWithin, rises}
 use Rattle.list.specs.Places.{Inside, Climbs}
 
 module _ (u : ℕ) where
-  rising_if : (p : ℕ) (ns : List ℕ) → rises u p ns ≡ true → Rising p ns
+  pub lawful_if : (p : ℕ) (ns : List ℕ) → rises u p ns ≡ true → Rising p ns × Each (λ x. x ≤ u) ns
   unfolding rises
-  rising_if p [] e = tt
-  rising_if p (n ∷ ns) e =
-      let parts = and_parts _ _ e in
-      (leb-true p n parts.0, rising_if (suc n) ns (and_parts _ _ parts.1).1)
-
-  within_if : (p : ℕ) (ns : List ℕ) → rises u p ns ≡ true → Each (λ x. x ≤ u) ns
-  unfolding rises
-  within_if p [] e = tt
-  within_if p (n ∷ ns) e =
-      let parts = and_parts _ _ (and_parts _ _ e).1 in
-      (leb-true n u parts.0, within_if (suc n) ns parts.1)
-
-  pub lawful_if : (ns : List ℕ) → rises u 1 ns ≡ true → RisesWithin u ns
-  lawful_if ns e = (rising_if 1 ns e, within_if 1 ns e)
+  lawful_if p [] e = (tt, tt)
+  lawful_if p (n ∷ ns) e =
+      let first = and_parts _ _ e in
+      let rest = and_parts _ _ first.1 in
+      let more = lawful_if (suc n) ns rest.1 in
+      ((leb-true p n first.0, more.0), (leb-true n u rest.0, more.1))
 
   pub rises_if : (p : ℕ) (ns : List ℕ) → Rising p ns → Each (λ x. x ≤ u) ns → rises u p ns ≡ true
   unfolding rises
@@ -39,14 +31,14 @@ module _ (u : ℕ) where
       at_drop_more (rises u p) ns j 0 l
       ∙ (λ t. le-leb p n low t && (le-leb n u high t && rises u (one t) (drop (j + 1) ns)))
 
-  pub rises_not : (p : ℕ) (ns : List ℕ) (j : ℕ) → j < length ns → (get_or ns j 0 < p) ⊎ (u < get_or ns j 0) → rises u p (drop j ns) ≡ false
+  pub rises_not : (p : ℕ) (ns : List ℕ) (j : ℕ) → j < length ns → ((p ≤ get_or ns j 0) × (get_or ns j 0 ≤ u) → ⊥) → rises u p (drop j ns) ≡ false
   unfolding rises
   rises_not p ns j l bad =
       at_drop_more (rises u p) ns j 0 l
       ∙ ⊎_elim
       (λ low. and_left _ _ (lt-leb p (get_or ns j 0) low))
-      (λ high. and_right _ _ (and_left _ _ (lt-leb (get_or ns j 0) u high)))
-      bad
+      (λ high. and_right _ _ (and_left _ _ (lt-leb (get_or ns j 0) u (⊎_elim (λ past. past) (λ within. absurd (bad (high, within))) (cases_lt u (get_or ns j 0))))))
+      (cases_lt (get_or ns j 0) p)
 
   pub rises_to_end : (p : ℕ) (ns : List ℕ) (j : ℕ) → length ns ≤ j → rises u p (drop j ns) ≡ true
   unfolding rises

@@ -1,10 +1,9 @@
--- What opening a list index answers, and what stands afterwards.
-use Rattle.std.specs.Prelude.{◌≡◌, ℕ, List, Ok, Err}
+-- What opening a list index answers, and what the index must be.
+use Rattle.std.specs.Prelude.{ℕ, List}
 use Rattle.faults.specs.Checks.{Verdict, last_check, located, first_of, Needs, Accepted}
 use Rattle.faults.specs.declared.fault.Form as forms
 use Rattle.sets.specs.Sets.{LastBay}
 use Rattle.list.specs.Lawful.{RisesWithin, list_check}
-use Rattle.list.specs.declared.index.List as index
 
 -- the numbers passed in are part 0, the list is part 1
 abbrev pub opening : ℕ → List ℕ → Verdict
@@ -13,8 +12,3 @@ opening u ns = first_of (located forms.TheVariants.List 0 (last_check u)) (locat
 -- what a list index must be, in the order in which it is asked: a last bay in range, and numbers that rise strictly from 1 to it
 abbrev pub OpeningIs : ℕ → List ℕ → Verdict → Type 0
 OpeningIs u ns = Needs forms.TheVariants.List 1 0 (LastBay u) (Needs forms.TheVariants.List 3 1 (RisesWithin u ns) Accepted)
-
--- the new index, whole, or after a refusal the old one
-abbrev pub Opened : Verdict → index.List → index.List → ℕ → List ℕ → Type 0
-Opened (Ok _) old new u ns = (new.last ≡ u) × (new.numbers.now ≡ ns)
-Opened (Err _) old new u ns = new ≡ old

@@ -15,8 +15,9 @@ impl<'a> Walking for List<'a> {
     }
 
     fn holds(&self, i: u32) -> bool {
-        let n = self.members_to(i);
-        n > 0 && self.numbers[n as usize - 1] as u32 == i
+        self.numbers
+            .binary_search_by_key(&i, |number| *number as u32)
+            .is_ok()
     }
 
     fn next(&self, sort: Sort, i: u32) -> Option<u32> {
@@ -31,11 +32,7 @@ impl<'a> Walking for List<'a> {
 impl<'a> Counting for List<'a> {
     fn rank(&self, sort: Sort, i: u32) -> u32 {
         let to = i.min(self.last);
-        let members = self.members_to(to);
-        match sort {
-            Sort::Members => members,
-            Sort::Others => to - members,
-        }
+        sort.share(self.members_to(to), to)
     }
 
     fn select(&self, sort: Sort, n: u32) -> Option<u32> {
@@ -43,17 +40,13 @@ impl<'a> Counting for List<'a> {
             return None;
         }
         match sort {
-            Sort::Members => {
-                let at = n as usize - 1;
-                if at < self.numbers.len() {
-                    Some(self.numbers[at] as u32)
-                } else {
-                    None
-                }
-            }
+            Sort::Members => self
+                .numbers
+                .get(n as usize - 1)
+                .map(|number| *number as u32),
             Sort::Others => {
                 let bay = n + self.members_before(n);
-                if bay <= self.last { Some(bay) } else { None }
+                (bay <= self.last).then_some(bay)
             }
         }
     }

@@ -3,7 +3,7 @@ ghost use Rattle.list.specs.Places.{Inside, Climbs};
 ghost use Rattle.sets.specs.Sets.{LastBay};
 
 /// The bays 1 to `last`, and the members as strictly rising numbers in the caller's memory.
-#[derive(Clone, Copy)]
+#[derive(Clone, Copy, PartialEq, Eq, Debug)]
 pub struct List<'a> {
     pub(crate) last: u32,
     pub(crate) numbers: &'a [u16],

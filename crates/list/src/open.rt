@@ -1,11 +1,13 @@
-// Opening a list index from the caller's memory.
+// The built-in list index, and opening one from the caller's memory.
 ghost use Rattle.std.specs.Prelude.{◌≡◌, false, [], ◌∷◌};
 ghost use Rattle.list.specs.Decoding.{set_of, Decodes};
-ghost use Rattle.list.specs.Opening.{opening, OpeningIs, Opened};
+ghost use Rattle.list.specs.Opening.{opening, OpeningIs};
 
 use super::check::check_rising;
 use super::index::List;
+use super::source::ListSource;
 use faults::{Fault, Form, Located, check_last};
+use opening::Opens;
 
 const NO_MEMBER: [u16; 0] = [];
 
@@ -21,14 +23,23 @@ impl<'a> List<'a> {
             numbers: &NO_MEMBER,
         }
     }
+}
 
-    /// Puts the index of the bays 1 to `last` and their members in the place of this one.
-    pub fn open(&mut self, last: u32, numbers: &'a [u16]) -> Result<(), Fault>
-        ensures answer { result ≡ opening last numbers.now }
-        ensures law { OpeningIs last numbers.now result }
-        ensures means { Decodes last numbers.now (set_of last numbers.now) }
-        ensures place { Opened result self.old self.new last numbers.now }
-    {
+impl<'a> Opens for List<'a> {
+    type Source = ListSource<'a>;
+
+    ghost verdict = { λ s. opening s.last s.numbers.now };
+
+    ghost due = { λ s. OpeningIs s.last s.numbers.now };
+
+    ghost decoding = { λ s. set_of s.last s.numbers.now };
+
+    ghost decodes = { λ s. Decodes s.last s.numbers.now };
+
+    ghost holding = { λ x s. (x.last ≡ s.last) × (x.numbers.now ≡ s.numbers.now) };
+
+    fn open(&mut self, source: ListSource<'a>) -> Result<(), Fault> {
+        let ListSource { last, numbers } = source;
         check_last(last).at(Form::List, 0)?;
         check_rising(numbers, last).at(Form::List, 1)?;
         *self = List { last, numbers };

@@ -11,16 +11,6 @@ impl<'a> List<'a> {
         ensures value { result ≡ count_to (is_among self.now.numbers.now) i }
         ensures bound { result ≤ length self.now.numbers.now }
     {
-        let mut lo: usize = 0;
-        let mut hi = self.numbers.len();
-        while lo < hi {
-            let mid = lo + (hi - lo) / 2;
-            if self.numbers[mid] as u32 <= i {
-                lo = mid + 1;
-            } else {
-                hi = mid;
-            }
-        }
-        lo as u32
+        self.numbers.partition_point(|number| *number as u32 <= i) as u32
     }
 }

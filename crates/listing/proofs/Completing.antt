@@ -8,13 +8,15 @@ use Rattle.round.specs.declared.state.Report.{Report}
 use Rattle.round.specs.declared.state.Taken.{Taken}
 use Rattle.round.specs.Handed.{HandedIs}
 use Rattle.round.specs.Machine.{end, common, next_from}
+use Rattle.round.specs.Sheets.{over}
 use Rattle.round.specs.States.{fresh, handed_by, after_next}
 use Rattle.round.specs.Stretches.{Between, Fewest}
 use Rattle.round.proofs.Handing.{next_handed}
 use Rattle.round.proofs.Made.{Made, made_join, made_listed, made_fewest}
 use Rattle.round.proofs.Taking.{bay_of, next_made}
-use Rattle.listing.specs.Listings.{Listing, before, onward, play, bays_of, Complete}
-use Rattle.listing.proofs.Playing.{play_step}
+use Rattle.listing.specs.Listings.{Listing, before, onward, play, bays_of, listed_of, written, Complete, CompleteIn}
+use Rattle.listing.specs.declared.list.Listed.{Listed}
+use Rattle.listing.proofs.Playing.{play_step, written_whole}
 
 module _ (f c : List Bool) where
   -- the place behind a bay is above the one before, and not past the end
@@ -32,17 +34,17 @@ module _ (f c : List Bool) where
 
   -- one next, which gave the bay o
   abbrev row : Report → Option ℕ → Taken
-  row s o = record { bay = o; stretches = (next_from f c s.place).stretches }
+  row s o = record { bay = o; stretches = (next_from f c s.place).taken.stretches }
 
   abbrev Stepped : Report → Option ℕ → Type 0
   Stepped s o =
-      Made f c s.place (next_from f c s.place).place (bay_of o) (next_from f c s.place).stretches
+      Made f c s.place (next_from f c s.place).place (bay_of o) (next_from f c s.place).taken.stretches
       × ((after_next f c s).handed ≡ s.handed + handed_by o)
       × HandedIs f c s.place o (next_from f c s.place).place
 
   played_step : (s : Report) (r : Listing) (o : Option ℕ) → s.place ≤ suc (end f c) → Stepped s o → ((q : ℕ) → o ≡ Some q → Played (after_next f c s) r) → Played s (before (row s o) (onward o (after_next f c s) r))
   played_step s r None top one on = record {
-    stretches = (next_from f c s.place).stretches;
+    stretches = (next_from f c s.place).taken.stretches;
     way = one.0;
     taken = refl;
     handed = one.1;
@@ -52,8 +54,8 @@ module _ (f c : List Bool) where
       let more = on q refl in
       let w = next_from f c s.place in
       record {
-        stretches = w.stretches + more.stretches;
-        way = made_join f c s.place w.place r.report.place (q ∷ []) (bays_of r.rows) w.stretches more.stretches one.0 more.way;
+        stretches = w.taken.stretches + more.stretches;
+        way = made_join f c s.place w.place r.report.place (q ∷ []) (bays_of r.rows) w.taken.stretches more.stretches one.0 more.way;
         taken = omega (arith, more.taken);
         handed = omega (arith, more.handed, one.1);
         ends = more.ends;
@@ -63,7 +65,7 @@ module _ (f c : List Bool) where
   play_played zero s l top h = absurd (omega arith)
   play_played (suc m) s l top h =
       subst (Played s) (sym (play_step f c m s))
-      (played_step s (play f c m (after_next f c s)) (next_from f c s.place).bay top
+      (played_step s (play f c m (after_next f c s)) (next_from f c s.place).taken.bay top
       (next_made f c s.place l, refl, next_handed f c s.place)
       (λ q e. let on = on_by s.place _ _ q e (next_handed f c s.place) in play_played m (after_next f c s) (omega (arith, on.0)) on.1 (omega (arith, on.0))))
 
@@ -76,7 +78,7 @@ module _ (f c : List Bool) where
       let in-class = is_bay c Members j both.1 in
       (in-free.0, omega (arith, in-free.1, in-class.1))
 
-  pub complete : (m : ℕ) (r : Listing) → suc (end f c) ≤ m → r ≡ play f c m fresh → Complete f c r
+  complete : (m : ℕ) (r : Listing) → suc (end f c) ≤ m → r ≡ play f c m fresh → Complete f c r
   complete m r room e =
       let p = subst (Played fresh) (sym e) (play_played m fresh (omega arith) (omega arith) (omega arith)) in
       let list = made_listed f c 1 r.report.place (bays_of r.rows) p.stretches p.way in
@@ -92,3 +94,7 @@ module _ (f c : List Bool) where
             (subst (λ (place : ℕ). Fewest f c (Between 1 place) p.stretches) p.ends (made_fewest f c 1 r.report.place (bays_of r.rows) p.stretches p.way));
         place = p.ends;
       }
+
+  -- where that is told and written
+  pub complete_in : (m : ℕ) (told : Listed) (memory new : List Taken) → told ≡ listed_of (play f c m fresh) → new ≡ over (play f c m fresh).rows memory → CompleteIn m f c (written told new)
+  complete_in m told memory new e w room = complete m _ room ((λ i. written (e i) (w i)) ∙ written_whole (play f c m fresh) memory)

@@ -1,9 +1,8 @@
 // The rows of a round, as many as fit.
-ghost use Rattle.std.specs.Prelude.{◌≡◌, suc, ◌≤◌, length, take};
-ghost use Rattle.round.specs.Machine.{end};
+ghost use Rattle.std.specs.Prelude.{◌≡◌, length};
 ghost use Rattle.round.specs.Sheets.{over};
-ghost use Rattle.round.specs.States.{state_of, fresh};
-ghost use Rattle.listing.specs.Listings.{Complete, play};
+ghost use Rattle.round.specs.States.{fresh};
+ghost use Rattle.listing.specs.Listings.{CompleteIn, play, play_of, listed_of, written};
 
 use super::list::Listed;
 use round::{Round, Taken};
@@ -11,14 +10,13 @@ use sets::{Counting, Walking};
 
 // Writes what each `next` gives, until one gives none or the memory is full, and says how many rows that were.
 fn take_rows<F: Counting, C: Walking>(round: &mut Round<F, C>, rows: &mut [Taken]) -> usize
-    ensures answer { let f = F.Walking.meant round.old.free in let c = C.Walking.meant round.old.class in let p = play f c (length rows.old) (state_of round.old) in result ≡ length p.rows }
-    ensures writes { let f = F.Walking.meant round.old.free in let c = C.Walking.meant round.old.class in let p = play f c (length rows.old) (state_of round.old) in rows.new ≡ over p.rows rows.old }
-    ensures state { let f = F.Walking.meant round.old.free in let c = C.Walking.meant round.old.class in let p = play f c (length rows.old) (state_of round.old) in state_of round.new ≡ p.report }
+    ensures answer { result ≡ length (play_of round.old (length rows.old)).rows }
+    ensures writes { rows.new ≡ over (play_of round.old (length rows.old)).rows rows.old }
+    ensures state { round.new.state ≡ (play_of round.old (length rows.old)).report }
 {
-    for n in 0..rows.len() {
-        let taken = round.next();
-        rows[n] = taken;
-        if taken.bay.is_none() {
+    for (n, row) in rows.iter_mut().enumerate() {
+        *row = round.next();
+        if row.bay.is_none() {
             return n + 1;
         }
     }
@@ -32,9 +30,9 @@ pub fn list_round<F: Counting + Drop, C: Walking + Drop>(
     class: C,
     rows: &mut [Taken],
 ) -> Listed
-    ensures answer { let f = F.Walking.meant free in let c = C.Walking.meant class in let p = play f c (length rows.old) fresh in result ≡ record { rows = length p.rows; report = p.report } }
-    ensures writes { let f = F.Walking.meant free in let c = C.Walking.meant class in let p = play f c (length rows.old) fresh in rows.new ≡ over p.rows rows.old }
-    ensures all { let f = F.Walking.meant free in let c = C.Walking.meant class in (suc (end f c) ≤ length rows.old → Complete f c (record { rows = take result.rows rows.new; report = result.report })) }
+    ensures answer { result ≡ listed_of (play (F.Walking.meant free) (C.Walking.meant class) (length rows.old) fresh) }
+    ensures writes { rows.new ≡ over (play (F.Walking.meant free) (C.Walking.meant class) (length rows.old) fresh).rows rows.old }
+    ensures all { CompleteIn (length rows.old) (F.Walking.meant free) (C.Walking.meant class) (written result rows.new) }
 {
     let mut round = Round::new(free, class);
     let written = take_rows(&mut round, rows);

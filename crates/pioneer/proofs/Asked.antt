@@ -1,12 +1,18 @@
 -- The answers to the questions, by the run in which, or behind which, a bay falls.
-use Rattle.std.proofs.Common.{◌≡◌, ℕ, suc, ◌+◌, ◌-◌, ◌<◌, ◌≤◌, min, Bool, true, false, not, Some, None, Option, refl, ap, ◌∙◌, ⊎_elim, arith}
-use Rattle.std.proofs.lemmas.Bool.{cases_Bool, cases_lt}
+use Rattle.std.proofs.Common.{◌≡◌, ℕ, suc, ◌+◌, ◌-◌, ◌<◌, ◌≤◌, min, Bool, true, false, not, Some, None, Option, leb, ltb, refl, ap, ◌∙◌, ⊎_elim, arith}
+use Rattle.std.specs.Bool.{then_some}
+use Rattle.std.proofs.lemmas.Bool.{cases_Bool, cases_lt, leb-true, leb-false, ltb-true, ltb-false}
 use Rattle.sets.specs.Search.{first_from, last_to, count_to, kth_to}
 use Rattle.sets.proofs.Tests.{FirstIs, first_law, first_by, last_by, kth_by, count_here, count_on, count_mono, count_less}
 use Rattle.pioneer.specs.Runs.{place_of, start_of, sum_of, length_of, behind_of, in_run, IsRun, Lawful}
 use Rattle.pioneer.proofs.Places.{place_none, place_low, place_high}
 use Rattle.pioneer.proofs.Ranks.{none_yet, inside, outside, stands, begun_by, last_begun, rank_told}
 use Rattle.pioneer.proofs.Sides.{inside_parts, run_inside, run_behind, run_before, pioneer_in, still_out}
+
+-- what a test keeps is what is there where it passes, and nothing is there where it does not
+pub kept : {A : Type 0} (b : Bool) (x : A) (o : Option A) → (b ≡ true → Some x ≡ o) → (b ≡ false → None ≡ o) → then_some b x ≡ o
+kept true x o pass fail = pass refl
+kept false x o pass fail = fail refl
 
 -- the first and the last where one passes at once
 module _ (f : ℕ → Bool) where
@@ -51,25 +57,23 @@ module _ (u n : ℕ) (P L : ℕ → Bool) (law : Lawful u n P L) where
     in_run_lem : (j : ℕ) → start_of u n P L (count_to P i) ≤ j → j < behind_of u n P L (count_to P i) → not (in_run u n P L j) ≡ false
     in_run_lem j a b = ap not (run_inside u n P L law j (count_to P i) run a b)
 
-    pub next_behind : (q : ℕ) → q ≡ behind_of u n P L (count_to P i) → q ≤ u → Some q ≡ first_from (λ j. not (in_run u n P L j)) i (suc u - i)
-    next_behind q same within =
+    -- the first non-member after it lies behind the run, if there is one
+    pub next_behind : (q : ℕ) → q ≡ behind_of u n P L (count_to P i) → then_some (leb q u) q ≡ first_from (λ j. not (in_run u n P L j)) i (suc u - i)
+    next_behind q same =
         let high = (inside_parts u n P L i e).1 in
-        first_by (λ j. not (in_run u n P L j)) i _ (Some q)
-        (omega arith, omega arith, ap not (run_behind u n P L law q _ run same within), λ j a b. in_run_lem j (omega (arith, low)) (omega arith))
+        kept (leb q u) q _
+        (λ within. first_by (λ j. not (in_run u n P L j)) i _ (Some q)
+        (omega arith, omega (arith, leb-true q u within), ap not (run_behind u n P L law q _ run same (leb-true q u within)), λ j a b. in_run_lem j (omega (arith, low)) (omega arith)))
+        (λ past. first_by (λ j. not (in_run u n P L j)) i _ None (λ j a b. in_run_lem j (omega (arith, low)) (omega (arith, leb-false q u past))))
 
-    pub next_beyond : u < behind_of u n P L (count_to P i) → None ≡ first_from (λ j. not (in_run u n P L j)) i (suc u - i)
-    next_beyond past = first_by (λ j. not (in_run u n P L j)) i _ None (λ j a b. in_run_lem j (omega (arith, low)) (omega arith))
-
-    pub previous_before : (q : ℕ) → suc q ≡ start_of u n P L (count_to P i) → 1 ≤ q → Some q ≡ last_to (λ j. not (in_run u n P L j)) i
-    previous_before q same some =
+    -- the last non-member before it lies before the run, if there is one
+    pub previous_before : (q : ℕ) → suc q ≡ start_of u n P L (count_to P i) → then_some (ltb 0 q) q ≡ last_to (λ j. not (in_run u n P L j)) i
+    previous_before q same =
         let high = (inside_parts u n P L i e).1 in
-        last_by (λ j. not (in_run u n P L j)) i (Some q)
-        (some, omega (arith, low), ap not (run_before u n P L law q _ run same), λ j a b. in_run_lem j (omega arith) (omega arith))
-
-    pub previous_none : start_of u n P L (count_to P i) ≤ 1 → None ≡ last_to (λ j. not (in_run u n P L j)) i
-    previous_none first =
-        let high = (inside_parts u n P L i e).1 in
-        last_by (λ j. not (in_run u n P L j)) i None (λ j a b. in_run_lem j (omega arith) (omega arith))
+        kept (ltb 0 q) q _
+        (λ some. last_by (λ j. not (in_run u n P L j)) i (Some q)
+        (ltb-true 0 q some, omega (arith, low), ap not (run_before u n P L law q _ run same), λ j a b. in_run_lem j (omega arith) (omega arith)))
+        (λ none. last_by (λ j. not (in_run u n P L j)) i None (λ j a b. in_run_lem j (omega (arith, ltb-false 0 q none)) (omega arith)))
 
   -- the last run that begins at or before bay i
   pub none_to_here : (i : ℕ) → count_to P i ≡ 0 → None ≡ last_to (in_run u n P L) i

@@ -1,21 +1,19 @@
 -- What is known of the runs of an opened index.
-use Rattle.std.proofs.Common.{◌≡◌, ℕ, ◌+◌, ◌-◌, ◌*◌, ◌<◌, ◌≤◌, min, true, false, not, length, None, Option, unwrap_or, ap, ◌∙◌, arith}
+use Rattle.std.proofs.Common.{Bool, Some, IsTrue, ◌↔◌, MatchOption, sym, refl, subst, ⊎_elim, ◌≡◌, ℕ, ◌+◌, ◌-◌, ◌<◌, ◌≤◌, min, true, false, not, None, Option, unwrap_or, ap, ◌∙◌, arith}
+use Rattle.std.specs.Bool.{then_some}
+use Rattle.std.proofs.lemmas.Bool.{cases_lt, both_ways}
 use Rattle.sets.specs.Search.{last_to, count_to, kth_to}
 use Rattle.sets.proofs.Tests.{count_at, count_mono, count_others}
 use Rattle.pioneer.specs.declared.index.Pioneer.{Pioneer}
 use Rattle.pioneer.specs.declared.run.Run.{Run}
-use Rattle.pioneer.specs.Found.{starts_of, sums_of, member_of, RunIs}
+use Rattle.pioneer.specs.Found.{starts_of, sums_of, member_of, RunIs, BegunIs, HeldIs}
 use Rattle.pioneer.specs.Runs.{place_of}
 use Rattle.pioneer.proofs.Places.{PlaceIs, place_last, kth_there}
-use Rattle.pioneer.proofs.Ranks.{last_begun, inside, outside, rank_all}
+use Rattle.pioneer.proofs.Ranks.{none_yet, last_begun, inside, outside, rank_all}
 use Rattle.pioneer.proofs.Asked.{rank_in}
 use Rattle.pioneer.proofs.Sides.{inside_parts}
 
 module _ (p : Pioneer) where
-  -- the bytes have the bits, and are few
-  pub sums_within : (p.count ≤ 8 * length p.sums.now) × (length p.sums.now ≤ 16384)
-  sums_within = (omega (arith, p.whole.1), omega (arith, p.whole.1, p.sized.1, p.most))
-
   -- a run that begins at or before bay i has its sum
   pub sum_there : (i r : ℕ) → i ≤ p.last → r ≡ count_to (starts_of p) i → 1 ≤ r → None ≡ kth_to (sums_of p) r p.count → ⊥
   sum_there i r h e some =
@@ -42,6 +40,22 @@ module _ (p : Pioneer) where
 
   pub held_low : (i : ℕ) (x : Run) → i ≤ p.last → (member_of p i ≡ true) × RunIs p (count_to (starts_of p) i) x → (x.start ≤ i) × (x.start + x.length ≤ p.last + 1) × (1 ≤ x.start) × (1 ≤ x.length)
   held_low i x h held = begun_low i x h (inside_parts _ _ _ _ i held.0).0 held.1
+
+  -- the same of what was found
+  pub found_low : (i : ℕ) (o : Option Run) (x : Run) → i ≤ p.last → BegunIs p i o → o ≡ Some x → (x.start ≤ i) × (x.start + x.length ≤ p.last + 1) × (1 ≤ x.start) × (1 ≤ x.length)
+  found_low i o x h begun e = let at = subst (BegunIs p i) e begun in begun_low i x h at.0 at.1
+
+  pub held_found : (i : ℕ) (o : Option Run) (x : Run) → i ≤ p.last → HeldIs p i o → o ≡ Some x → (x.start ≤ i) × (x.start + x.length ≤ p.last + 1) × (1 ≤ x.start) × (1 ≤ x.length)
+  held_found i o x h held e = held_low i x h (subst (HeldIs p i) e held)
+
+  -- the run that was found, unless bay i lies behind it
+  pub held_of : {R : Run → Bool → Type 0} (i : ℕ) (o r : Option Run) → i ≤ p.last → BegunIs p i o → ((x : Run) (b : Bool) → R x b → IsTrue b ↔ ((x.start ≤ i) × (i < x.start + x.length))) → MatchOption o (r ≡ None) (λ x. (b : Bool) × R x b × (r ≡ then_some b x)) → HeldIs p i r
+  held_of i None r h begun means e = subst (HeldIs p i) (sym e) (none_yet _ _ _ _ i begun)
+  held_of i (Some x) r h begun means (b, holds, e) = subst (HeldIs p i) (sym e) (cut b (means x b holds))
+    where
+      cut : (b : Bool) → IsTrue b ↔ ((x.start ≤ i) × (i < x.start + x.length)) → HeldIs p i (then_some b x)
+      cut true means = (held_by i x begun.0 begun.1 (means.0 refl).1, begun.1)
+      cut false means = behind_by i x begun.1 (⊎_elim (λ less. absurd (both_ways _ refl (means.1 ((begun_low i x h begun.0 begun.1).0, less)))) (λ more. more) (cases_lt i (x.start + x.length)))
 
   pub members_by : (i m : ℕ) (x : Run) → i ≤ p.last → (1 ≤ count_to (starts_of p) i) × RunIs p (count_to (starts_of p) i) x → m ≡ min (i - x.start + 1) x.length → x.before + m ≡ count_to (member_of p) i
   members_by i m x h begun e =

@@ -1,5 +1,5 @@
 -- What opening a pioneer index answers, and what stands afterwards.
-use Rattle.std.specs.Prelude.{◌≡◌, ℕ, ◌+◌, ◌-◌, ◌≤◌, Bool, cond, not, ◌&&◌, ◌||◌, List, Ok, Err, ◌==◌, nat_le, nat_lt}
+use Rattle.std.specs.Prelude.{ℕ, ◌+◌, ◌-◌, ◌≤◌, Bool, cond, not, ◌&&◌, ◌||◌, List, Ok, Err, ◌==◌, nat_le, nat_lt}
 use Rattle.faults.specs.Checks.{Check, Verdict, last_check, none_found, located, first_of, Needs, Accepted}
 use Rattle.faults.specs.declared.fault.Flaw.TheVariants.{Numbers, Unlawful}
 use Rattle.faults.specs.declared.fault.Form as forms
@@ -7,7 +7,6 @@ use Rattle.sets.specs.Search.{first_from, count_to}
 use Rattle.sets.specs.Sets.{LastBay}
 use Rattle.bits.specs.Bits.{bit_at}
 use Rattle.bits.specs.Checks.{Whole, Clear, length_check, spare_check}
-use Rattle.pioneer.specs.declared.index.Pioneer.{Pioneer}
 use Rattle.pioneer.specs.Runs.{runs, start_of, behind_of, Lawful}
 
 -- there are not more members than bays
@@ -47,8 +46,3 @@ OpeningIs u n starts sums =
     (Needs forms.TheVariants.Pioneer 3 1 (Clear u starts)
     (Needs forms.TheVariants.Pioneer 3 2 (Clear n sums)
     (Needs forms.TheVariants.Pioneer 6 2 (Lawful u n (bit_at starts) (bit_at sums)) Accepted))))))
-
--- the new index, whole, or after a refusal the old one
-abbrev pub Opened : Verdict → Pioneer → Pioneer → ℕ → ℕ → List ℕ → List ℕ → Type 0
-Opened (Ok _) old new u n starts sums = (new.last ≡ u) × (new.count ≡ n) × (new.starts.now ≡ starts) × (new.sums.now ≡ sums)
-Opened (Err _) old new u n starts sums = new ≡ old

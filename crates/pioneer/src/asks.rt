@@ -4,7 +4,6 @@ ghost use Rattle.pioneer.specs.Runs.{set_of};
 ghost use Rattle.sets.specs.Made.{made_sized};
 
 use super::index::Pioneer;
-use bits::Bit;
 use sets::{Counting, Sort, Walking};
 
 impl<'a> Walking for Pioneer<'a> {
@@ -17,10 +16,7 @@ impl<'a> Walking for Pioneer<'a> {
     }
 
     fn holds(&self, i: u32) -> bool {
-        if i > self.last {
-            return false;
-        }
-        self.held(i).is_some()
+        i <= self.last && self.held(i).is_some()
     }
 
     fn next(&self, sort: Sort, i: u32) -> Option<u32> {
@@ -29,40 +25,23 @@ impl<'a> Walking for Pioneer<'a> {
             return None;
         }
         match (sort, self.held(from)) {
-            (Sort::Members, Some(_)) => Some(from),
-            (Sort::Members, None) => bits::next(self.starts, Bit::One, from, self.last),
+            (Sort::Members, None) => bits::next(self.starts, Sort::Members, from, self.last),
             (Sort::Others, Some(run)) => {
-                let behind = run.start + run.length;
-                if behind <= self.last {
-                    Some(behind)
-                } else {
-                    None
-                }
+                let behind = run.behind();
+                (behind <= self.last).then_some(behind)
             }
-            (Sort::Others, None) => Some(from),
+            (Sort::Members, Some(_)) | (Sort::Others, None) => Some(from),
         }
     }
 
     fn previous(&self, sort: Sort, i: u32) -> Option<u32> {
-        if i == 0 {
-            return None;
-        }
         let to = i.min(self.last);
         match sort {
-            Sort::Members => {
-                let run = self.begun(to)?;
-                Some(to.min(run.start + run.length - 1))
+            Sort::Members => self.begun(to).map(|run| to.min(run.behind() - 1)),
+            Sort::Others => {
+                let bay = self.held(to).map_or(to, |run| run.start - 1);
+                (bay > 0).then_some(bay)
             }
-            Sort::Others => match self.held(to) {
-                Some(run) => {
-                    if run.start > 1 {
-                        Some(run.start - 1)
-                    } else {
-                        None
-                    }
-                }
-                None => Some(to),
-            },
         }
     }
 }
@@ -70,11 +49,7 @@ impl<'a> Walking for Pioneer<'a> {
 impl<'a> Counting for Pioneer<'a> {
     fn rank(&self, sort: Sort, i: u32) -> u32 {
         let to = i.min(self.last);
-        let members = self.members(to);
-        match sort {
-            Sort::Members => members,
-            Sort::Others => to - members,
-        }
+        sort.share(self.members(to), to)
     }
 
     fn select(&self, sort: Sort, n: u32) -> Option<u32> {

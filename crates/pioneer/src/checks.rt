@@ -1,25 +1,14 @@
-// Whether numbers and rows make a pioneer index.
+// Whether the rows make a pioneer index.
 ghost use Rattle.std.specs.Prelude.{◌≡◌, ◌≤◌};
 ghost use Rattle.bits.specs.Bits.{bit_at};
 ghost use Rattle.bits.specs.Checks.{Whole};
 ghost use Rattle.faults.specs.Checks.{CheckIs};
-ghost use Rattle.pioneer.specs.Opening.{count_check, runs_check};
+ghost use Rattle.pioneer.specs.Opening.{runs_check};
 ghost use Rattle.pioneer.specs.Runs.{Lawful};
 
-use bits::Bit;
+use super::run::Run;
 use faults::Flaw;
-
-// Checks that there are not more members than bays.
-pub(crate) fn check_count(count: u32, last: u32) -> Result<(), Flaw>
-    ensures answer { result ≡ count_check count last }
-    ensures law { CheckIs 1 (count ≤ last) result }
-{
-    if count <= last {
-        Ok(())
-    } else {
-        Err(Flaw::Numbers)
-    }
-}
+use sets::Sort;
 
 // Checks run by run that the rows make an index.
 pub(crate) fn check_runs(starts: &[u8], sums: &[u8], last: u32, count: u32) -> Result<(), Flaw>
@@ -33,25 +22,28 @@ pub(crate) fn check_runs(starts: &[u8], sums: &[u8], last: u32, count: u32) -> R
     if count > 0 && !bits::get(sums, count) {
         return Err(Flaw::Unlawful);
     }
-    let mut start = 0;
-    let mut sum = 0;
-    let mut behind = 0;
-    while let Some(at) = bits::next(starts, Bit::One, start + 1, last) {
-        let Some(end) = bits::next(sums, Bit::One, sum + 1, count) else {
-            return Err(Flaw::Unlawful);
+    // Before the first run stands an empty one, which ends before bay 1.
+    let mut run = Run {
+        start: 0,
+        before: 0,
+        length: 0,
+    };
+    loop {
+        let before = run.before + run.length;
+        let start = bits::next(starts, Sort::Members, run.start + 1, last);
+        let sum = bits::next(sums, Sort::Members, before + 1, count);
+        let next = match (start, sum) {
+            (Some(start), Some(sum)) => Run {
+                start,
+                before,
+                length: sum - before,
+            },
+            (None, None) => return Ok(()),
+            (Some(_), None) | (None, Some(_)) => return Err(Flaw::Unlawful),
         };
-        if at <= behind {
+        if next.start <= run.behind() || next.behind() > last + 1 {
             return Err(Flaw::Unlawful);
         }
-        behind = at + (end - sum);
-        if behind > last + 1 {
-            return Err(Flaw::Unlawful);
-        }
-        start = at;
-        sum = end;
-    }
-    match bits::next(sums, Bit::One, sum + 1, count) {
-        Some(_) => Err(Flaw::Unlawful),
-        None => Ok(()),
+        run = next;
     }
 }

@@ -4,7 +4,7 @@ ghost use Rattle.pioneer.specs.Found.{member_of};
 ghost use Rattle.sets.specs.Search.{count_to, kth_to};
 
 use super::index::Pioneer;
-use bits::Bit;
+use sets::{Sort, partition_point};
 
 impl<'a> Pioneer<'a> {
     // How many members lie from bay 1 to bay `i`.
@@ -27,28 +27,18 @@ impl<'a> Pioneer<'a> {
             return None;
         }
         let r = bits::ones(self.sums, k - 1) + 1;
-        let start = bits::kth(self.starts, Bit::One, r, self.last)?;
-        let before = bits::previous(self.sums, Bit::One, k - 1).unwrap_or(0);
+        let start = bits::kth(self.starts, Sort::Members, r, self.last)?;
+        let before = bits::previous(self.sums, Sort::Members, k - 1).unwrap_or(0);
         Some(start + (k - before) - 1)
     }
 
-    // The `k`-th non-member, by halves.
+    // The `k`-th non-member: the first bay up to which there are so many.
     pub(crate) fn other(&self, k: u32) -> Option<u32>
         ensures { result ≡ kth_to (λ j. not (member_of self.now j)) k self.now.last }
     {
         if k == 0 || k > self.last - self.count {
             return None;
         }
-        let mut low = 0;
-        let mut high = self.last;
-        while high - low > 1 {
-            let middle = (low + high) / 2;
-            if middle - self.members(middle) < k {
-                low = middle;
-            } else {
-                high = middle;
-            }
-        }
-        Some(high)
+        Some(partition_point(1, self.last, |i| i - self.members(i) < k))
     }
 }

@@ -4,7 +4,7 @@ ghost use Rattle.pioneer.specs.Found.{BegunIs, HeldIs};
 
 use super::index::Pioneer;
 use super::run::Run;
-use bits::Bit;
+use sets::Sort;
 
 impl<'a> Pioneer<'a> {
     // The last run that begins at or before bay `i`.
@@ -12,10 +12,10 @@ impl<'a> Pioneer<'a> {
         requires { i ≤ self.now.last }
         ensures { BegunIs self.now i result }
     {
-        let start = bits::previous(self.starts, Bit::One, i)?;
+        let start = bits::previous(self.starts, Sort::Members, i)?;
         let r = bits::ones(self.starts, i);
-        let sum = bits::kth(self.sums, Bit::One, r, self.count)?;
-        let before = bits::previous(self.sums, Bit::One, sum - 1).unwrap_or(0);
+        let sum = bits::kth(self.sums, Sort::Members, r, self.count)?;
+        let before = bits::previous(self.sums, Sort::Members, sum - 1).unwrap_or(0);
         Some(Run {
             start,
             before,
@@ -28,11 +28,6 @@ impl<'a> Pioneer<'a> {
         requires { i ≤ self.now.last }
         ensures { HeldIs self.now i result }
     {
-        let run = self.begun(i)?;
-        if i - run.start < run.length {
-            Some(run)
-        } else {
-            None
-        }
+        self.begun(i).filter(|run| run.holds(i))
     }
 }

@@ -7,7 +7,7 @@ ghost use Rattle.sets.specs.Sets.{LastBay};
 
 /// The bays 1 to `last` with `count` members, and two bitvectors in the caller's memory: the first bays of the runs of members, and
 /// the sums of the first 1, 2, .. run lengths.
-#[derive(Clone, Copy)]
+#[derive(Clone, Copy, PartialEq, Eq, Debug)]
 pub struct Pioneer<'a> {
     pub(crate) last: u32,
     pub(crate) count: u32,

@@ -1,13 +1,15 @@
-// Opening a pioneer index from the caller's memory.
+// The built-in pioneer index, and opening one from the caller's memory.
 ghost use Rattle.std.specs.Prelude.{◌≡◌, false, [], ◌∷◌};
 ghost use Rattle.pioneer.specs.Decoding.{Decodes};
-ghost use Rattle.pioneer.specs.Opening.{opening, OpeningIs, Opened};
+ghost use Rattle.pioneer.specs.Opening.{opening, OpeningIs};
 ghost use Rattle.pioneer.specs.Runs.{set_of};
 
-use super::checks::{check_count, check_runs};
+use super::checks::check_runs;
 use super::index::Pioneer;
+use super::source::PioneerSource;
 use bits::{check_length, check_spare};
-use faults::{Fault, Form, Located, check_last};
+use faults::{Fault, Flaw, Form, Located, check_last, check_range};
+use opening::Opens;
 
 const NO_RUN: [u8; 1] = [0];
 
@@ -29,27 +31,43 @@ impl<'a> Pioneer<'a> {
             sums: &NO_SUM,
         }
     }
+}
 
-    /// Puts the index of the bays 1 to `last` with `count` members, and of their runs, in the place of this one.
-    pub fn open(
-        &mut self,
-        last: u32,
-        count: u32,
-        starts: &'a [u8],
-        sums: &'a [u8],
-    ) -> Result<(), Fault>
-        ensures answer { result ≡ opening last count starts.now sums.now }
-        ensures law { OpeningIs last count starts.now sums.now result }
-        ensures means { Decodes last count starts.now sums.now (set_of last count starts.now sums.now) }
-        ensures place { Opened result self.old self.new last count starts.now sums.now }
-    {
-        check_last(last).at(Form::Pioneer, 0)?;
-        check_count(count, last).at(Form::Pioneer, 0)?;
-        check_length(starts, last).at(Form::Pioneer, 1)?;
-        check_length(sums, count).at(Form::Pioneer, 2)?;
-        check_spare(starts, last).at(Form::Pioneer, 1)?;
-        check_spare(sums, count).at(Form::Pioneer, 2)?;
-        check_runs(starts, sums, last, count).at(Form::Pioneer, 2)?;
+// Checks the numbers and the parts, in the order of the refusals.
+fn check_all(last: u32, count: u32, starts: &[u8], sums: &[u8]) -> Result<(), Fault>
+    ensures answer { result ≡ opening last count starts.now sums.now }
+    ensures law { OpeningIs last count starts.now sums.now result }
+{
+    check_last(last).at(Form::Pioneer, 0)?;
+    check_range(count, 0, last, Flaw::Numbers).at(Form::Pioneer, 0)?;
+    check_length(starts, last).at(Form::Pioneer, 1)?;
+    check_length(sums, count).at(Form::Pioneer, 2)?;
+    check_spare(starts, last).at(Form::Pioneer, 1)?;
+    check_spare(sums, count).at(Form::Pioneer, 2)?;
+    check_runs(starts, sums, last, count).at(Form::Pioneer, 2)
+}
+
+impl<'a> Opens for Pioneer<'a> {
+    type Source = PioneerSource<'a>;
+
+    ghost verdict = { λ s. opening s.last s.count s.starts.now s.sums.now };
+
+    ghost due = { λ s. OpeningIs s.last s.count s.starts.now s.sums.now };
+
+    ghost decoding = { λ s. set_of s.last s.count s.starts.now s.sums.now };
+
+    ghost decodes = { λ s. Decodes s.last s.count s.starts.now s.sums.now };
+
+    ghost holding = { λ p s. (p.last ≡ s.last) × (p.count ≡ s.count) × (p.starts.now ≡ s.starts.now) × (p.sums.now ≡ s.sums.now) };
+
+    fn open(&mut self, source: PioneerSource<'a>) -> Result<(), Fault> {
+        let PioneerSource {
+            last,
+            count,
+            starts,
+            sums,
+        } = source;
+        check_all(last, count, starts, sums)?;
         *self = Pioneer {
             last,
             count,

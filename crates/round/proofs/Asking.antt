@@ -1,6 +1,6 @@
 -- The laws of count, nearest and pick.
-use Rattle.std.proofs.Common.{◌≡◌, ℕ, zero, suc, ◌+◌, ◌-◌, ◌<◌, ◌≤◌, Bool, true, false, cond, ◌&&◌, leb, ◌⊎◌, List, length, Some, None, Ok, Err, Option, Result, sym, refl, ap, ◌∙◌, subst, inl, inr, ⊎_elim, arith}
-use Rattle.faults.specs.declared.fault.Refusal.{Refusal}
+use Rattle.std.proofs.Common.{◌≡◌, ℕ, zero, suc, ◌+◌, ◌-◌, ◌<◌, ◌≤◌, Bool, true, false, cond, ◌&&◌, leb, ◌⊎◌, List, length, Some, None, Ok, Err, Option, sym, refl, ap, ◌∙◌, inl, inr, ⊎_elim, arith}
+use Rattle.std.specs.Option.{ok_or}
 use Rattle.faults.specs.declared.fault.Refusal.TheVariants.{TooFew}
 use Rattle.std.proofs.lemmas.Bool.{cond-true, cond-false, cond_both, cases_Bool, cases_lt, and_parts, and_from, and_left, and_right, both_ways, le-leb, lt-leb, leb-true, leb-false}
 use Rattle.sets.specs.Lists.{ListOf}
@@ -13,7 +13,7 @@ use Rattle.sets.proofs.Only.{rank_mono, rank_less}
 use Rattle.sets.proofs.Ranks.{counted}
 use Rattle.sets.proofs.Tests.{count_none, count_here, count_on}
 use Rattle.round.specs.Answers.{Nearest, PickIs}
-use Rattle.round.specs.Calls.{members_in, count_in, nearer, nearest_to, nearest_at, up_to, picked, pick_from}
+use Rattle.round.specs.Calls.{members_in, count_in, nearer, nearest_to, up_to, pick_from}
 
 -- ---- count
 
@@ -130,20 +130,17 @@ module _ (f : List Bool) (w p : ℕ) (in-round : p ≤ w) where
 pub nearest_is : (f : List Bool) (w p : ℕ) → p ≤ w → Nearest f w p (nearest_to f w p)
 nearest_is f w p l = nearer_is f w p l (previous_of f Members p) (next_of f Members p) (previous_largest f Members p) (next_smallest f Members p)
 
-pub nearest_ok : (f : List Bool) (w p : ℕ) (r : Option ℕ) → 1 ≤ p → p ≤ w → r ≡ nearest_to f w p → Ok r ≡ nearest_at f w p
-nearest_ok f w p r l h e = ap Ok e ∙ sym (cond-true (leb 1 p) _ _ (le-leb 1 p l) ∙ cond-true (leb p w) _ _ (le-leb p w h))
-
 -- ---- pick
 
 module _ (f : List Bool) (w k : ℕ) (some : 1 ≤ k) (within : w ≤ length f) where
   -- what is picked of a bay that select gave
-  record Picks (r : Option ℕ) : Type 0 where
-    pub answer : picked (up_to w r) ≡ cond (leb k (rank_of f Members w)) (picked r) (Err TooFew)
-    pub law : PickIs f w k (picked (up_to w r))
+  pub record Picks (r : Option ℕ) : Type 0 where
+    pub answer : ok_or (up_to w r) TooFew ≡ cond (leb k (rank_of f Members w)) (ok_or r TooFew) (Err TooFew)
+    pub law : PickIs f w k (ok_or (up_to w r) TooFew)
 
   too_few : (r : Option ℕ) → up_to w r ≡ None → rank_of f Members w < k → Picks r
   too_few r e l = record {
-    answer = ap picked e ∙ sym (cond-false (leb k (rank_of f Members w)) (picked r) (Err TooFew) (lt-leb k (rank_of f Members w) l));
+    answer = ap (λ (o : Option ℕ). ok_or o TooFew) e ∙ sym (cond-false (leb k (rank_of f Members w)) (ok_or r TooFew) (Err TooFew) (lt-leb k (rank_of f Members w) l));
     law = rw e (inr (refl, (some, l)));
   }
 
@@ -157,20 +154,16 @@ module _ (f : List Bool) (w k : ℕ) (some : 1 ≤ k) (within : w ≤ length f) 
       let e : up_to w (Some q) ≡ Some q = cond-true (leb q w) (Some q) None (le-leb q w here) in
       let many : k ≤ rank_of f Members w = omega (arith, rank_mono f Members q w here, law.1) in
       record {
-        answer = ap picked e ∙ sym (cond-true (leb k (rank_of f Members w)) (Ok q) (Err TooFew) (le-leb k (rank_of f Members w) many));
+        answer = ap (λ (o : Option ℕ). ok_or o TooFew) e ∙ sym (cond-true (leb k (rank_of f Members w)) (Ok q) (Err TooFew) (le-leb k (rank_of f Members w) many));
         law = rw e (here, law.0, law.1);
       })
       (cases_lt w q)
 
-  -- what select gave, picked
-  pub record Picked (r : Result ℕ Refusal) : Type 0 where
-    pub answer : r ≡ pick_from f w k
-    pub law : PickIs f w k r
+  pub picks : Picks (select_of f Members k)
+  picks = pick_is (select_of f Members k) (select_ranks f Members k)
 
-  pub picks : (r : Result ℕ Refusal) → r ≡ picked (up_to w (select_of f Members k)) → Picked r
-  picks r e =
-      let p = pick_is (select_of f Members k) (select_ranks f Members k) in
-      record {
-        answer = e ∙ p.answer ∙ sym (cond-true (leb 1 k) _ _ (le-leb 1 k some));
-        law = subst (PickIs f w k) (sym e) p.law;
-      }
+  pub picked_from : ok_or (up_to w (select_of f Members k)) TooFew ≡ pick_from f w k
+  picked_from = picks.answer ∙ sym (cond-true (leb 1 k) _ _ (le-leb 1 k some))
+
+  pub picked_is : PickIs f w k (ok_or (up_to w (select_of f Members k)) TooFew)
+  picked_is = picks.law

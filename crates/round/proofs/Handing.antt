@@ -26,7 +26,7 @@ module _ (f c : List Bool) where
       (omega (arith, is.0), is.1, is.2, λ j from to. ⊎_elim (λ before. out j from before) (λ after. is.3 j after to) (cases_lt j q), is.4)
 
   abbrev Ends : ℕ → Walked → Type 0
-  Ends p r = HandedIs f c p r.bay r.place
+  Ends p r = HandedIs f c p r.taken.bay r.place
 
   walk_ends : (m p n : ℕ) → suc (end f c) ≤ m + p → Ends p (walk f c m p n)
   unfolding walk
@@ -41,7 +41,7 @@ module _ (f c : List Bool) where
       let top = larger_end f c p in
       let on = walk f c m (larger f c p) (n + 1) in
       subst (Ends p) (sym (walk_on f c m p n within e))
-      (back p (larger f c p) on.bay on.place (omega arith) top (λ j from to. passes_none p j within e from to) (walk_ends m (larger f c p) (n + 1) (omega arith))))
+      (back p (larger f c p) on.taken.bay on.place (omega arith) top (λ j from to. passes_none p j within e from to) (walk_ends m (larger f c p) (n + 1) (omega arith))))
       (cases_Bool (common f c p)))
       (cases_lt (end f c) p)
 
@@ -49,5 +49,5 @@ module _ (f c : List Bool) where
   unfolding next_from
   next_handed p = walk_ends (suc (end f c) - p) p 0 (omega arith)
 
-  pub handed_at : (p : ℕ) (r : Walked) → r ≡ next_from f c p → HandedIs f c p r.bay r.place
+  pub handed_at : (p : ℕ) (r : Walked) → r ≡ next_from f c p → HandedIs f c p r.taken.bay r.place
   handed_at p r e = subst (Ends p) (sym e) (next_handed p)

@@ -4,6 +4,7 @@ pub mod Greedy
 pub mod Handing
 pub mod Ways
 pub mod Made
+pub mod Memory
 pub mod Sheeting
 pub mod Taking
 pub mod Rounds

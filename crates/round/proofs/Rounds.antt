@@ -1,22 +1,27 @@
--- A round that was lent and came back is the same round; what next hands out.
-use Rattle.std.proofs.Common.{◌≡◌, ℕ, ◌+◌, true, false, is_some, Some, None, Option, refl, arith}
-use denote.Struct.Props.{props}
+-- A call of next, in the words of the sets of a round that stood before.
+use Rattle.std.proofs.Common.{◌≡◌, ◌≤◌, Bool, List, ◌∙◌, arith}
+use Rattle.round.specs.declared.state.Report.{Report}
 use Rattle.round.specs.declared.state.Round.{Round}
+use Rattle.round.specs.declared.state.Taken.{Taken}
+use Rattle.round.specs.Machine.{next_from}
+use Rattle.round.specs.Rounds.{free_of, class_of, walk_of, SameSets}
 use Rattle.round.specs.Standing.{Standing}
-use Rattle.round.specs.States.{handed_by}
+use Rattle.round.specs.States.{after_next}
+use Rattle.sets.specs.Sets.{Sized}
 
-standing_prop : (p h n : ℕ) → IsProp (Standing p h n)
-standing_prop p h n = hlevel props
+-- `here` has the sets of r, and a next gave t and left it as `on`
+pub record Nexted {X Y : Type 0} {x : _} {y : _} (r here on : Round X Y x y) (t : Taken) : Type 0 where
+  pub step : t ≡ (next_from (free_of r) (class_of r) here.state.place).taken
+  pub state : on.state ≡ after_next (free_of r) (class_of r) here.state
+  pub sets : SameSets r on
 
--- a round does not depend on the proof of what it keeps
-pub rebuilt : {X Y : Type 0} {x : _} {y : _} (r : Round X Y x y) (o : Standing r.place r.handed r.stretches) → ◌≡◌ {A = Round X Y x y} (record { free = r.free; class = r.class; place = r.place; handed = r.handed; stretches = r.stretches; ok = o }) r
-rebuilt r o = λ i. record { free = r.free; class = r.class; place = r.place; handed = r.handed; stretches = r.stretches; ok = standing_prop r.place r.handed r.stretches o r.ok i }
+pub next_on : {X Y : Type 0} {x : _} {y : _} (r here on : Round X Y x y) (t : Taken) → SameSets r here → t ≡ (walk_of here).taken → on.state ≡ after_next (free_of here) (class_of here) here.state → SameSets here on → Nexted r here on t
+next_on {x = x} {y = y} r here on t same step state sets = record {
+  step = step ∙ (λ i. (next_from (x.meant (same.0 i)) (y.meant (same.1 i)) here.state.place).taken);
+  state = state ∙ (λ i. after_next (x.meant (same.0 i)) (y.meant (same.1 i)) here.state);
+  sets = (sets.0 ∙ same.0, sets.1 ∙ same.1);
+}
 
--- a bay that was found is handed out, and else none is
-pub handed_some : (o : Option ℕ) (n : ℕ) → is_some o ≡ true → n + 1 ≡ n + handed_by o
-handed_some None n e = absurd (let z : ◌≡◌ {A = ℕ} 0 1 = cc in omega arith)
-handed_some (Some q) n e = refl
-
-pub handed_none : (o : Option ℕ) (n : ℕ) → is_some o ≡ false → n ≡ n + handed_by o
-handed_none None n e = omega arith
-handed_none (Some q) n e = absurd (let z : ◌≡◌ {A = ℕ} 0 1 = cc in omega arith)
+-- a place is at most one past the largest last bay that a set can have
+pub place_fits : (f c : List Bool) (s : Report) → Sized f → Standing f c s → s.place ≤ 65536
+place_fits f c s sized h = omega (arith, sized.1, h.1)

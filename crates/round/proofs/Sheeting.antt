@@ -1,9 +1,10 @@
 -- A sheet, one bay at a time.
-use Rattle.std.proofs.Common.{◌≡◌, ℕ, suc, ◌+◌, ◌-◌, ◌<◌, ◌≤◌, Bool, List, [], ◌∷◌, ◌++◌, length, take, drop, set, Some, None, Option, sym, refl, ap, ◌∙◌, append_assoc, add-one, arith, length-set, take-append-drop, length-take, drop-drop, take-suc-set}
-use Rattle.std.proofs.lemmas.List.{drop-set-lt, append-nil}
+use Rattle.std.proofs.Common.{◌≡◌, ℕ, suc, ◌+◌, ◌-◌, ◌<◌, ◌≤◌, Bool, List, [], ◌∷◌, ◌++◌, length, take, drop, set, Some, None, Option, sym, refl, ap, ◌∙◌, append_assoc, arith, length-set}
+use Rattle.std.proofs.lemmas.List.{append-nil}
 use Rattle.round.specs.declared.state.Report.{Report}
 use Rattle.round.specs.Machine.{next_from}
 use Rattle.round.specs.Sheets.{Page, paged, sheet_from, over}
+use Rattle.round.proofs.Memory.{front_more, kept_more, is_over}
 use Rattle.round.specs.States.{handed_by, after_next, after_sheet}
 
 -- bays and stretches before those of a page
@@ -15,14 +16,14 @@ module _ (f c : List Bool) where
   unfolding sheet_from
   sheet_full p = refl
 
-  pub sheet_step : (k p : ℕ) → sheet_from f c (suc k) p ≡ paged (next_from f c p).bay (next_from f c p) (sheet_from f c k (next_from f c p).place)
+  pub sheet_step : (k p : ℕ) → sheet_from f c (suc k) p ≡ paged (next_from f c p).taken.bay (next_from f c p) (sheet_from f c k (next_from f c p).place)
   unfolding sheet_from
   sheet_step k p = refl
 
-  sheet_none : (k p : ℕ) → (next_from f c p).bay ≡ None → sheet_from f c (suc k) p ≡ record { bays = []; place = (next_from f c p).place; stretches = (next_from f c p).stretches }
+  sheet_none : (k p : ℕ) → (next_from f c p).taken.bay ≡ None → sheet_from f c (suc k) p ≡ record { bays = []; place = (next_from f c p).place; stretches = (next_from f c p).taken.stretches }
   sheet_none k p e = sheet_step k p ∙ ap (λ (o : Option ℕ). paged o (next_from f c p) (sheet_from f c k (next_from f c p).place)) e
 
-  sheet_some : (k p q : ℕ) → (next_from f c p).bay ≡ Some q → sheet_from f c (suc k) p ≡ onto (q ∷ []) (next_from f c p).stretches (sheet_from f c k (next_from f c p).place)
+  sheet_some : (k p q : ℕ) → (next_from f c p).taken.bay ≡ Some q → sheet_from f c (suc k) p ≡ onto (q ∷ []) (next_from f c p).taken.stretches (sheet_from f c k (next_from f c p).place)
   sheet_some k p q e = sheet_step k p ∙ ap (λ (o : Option ℕ). paged o (next_from f c p) (sheet_from f c k (next_from f c p).place)) e
 
 -- n bays of the sheet are written, and the round stands at s
@@ -46,25 +47,25 @@ module _ (f c : List Bool) (s₀ : Report) (out₀ : List ℕ) where
       let sum : t + (u + r.stretches) ≡ t + u + r.stretches = omega arith in
       λ i. record { bays = sym (append_assoc ws (q ∷ []) r.bays) i; place = r.place; stretches = sum i }
 
-  pub going_more : (n : ℕ) (s s' : Report) (out : List ℕ) (q : ℕ) → n < length out₀ → Some q ≡ (next_from f c s.place).bay → s' ≡ after_next f c s → Going f c s₀ out₀ n s out → Going f c s₀ out₀ (n + 1) s' (set out n q)
+  pub going_more : (n : ℕ) (s s' : Report) (out : List ℕ) (q : ℕ) → n < length out₀ → Some q ≡ (next_from f c s.place).taken.bay → s' ≡ after_next f c s → Going f c s₀ out₀ n s out → Going f c s₀ out₀ (n + 1) s' (set out n q)
   going_more n s s' out q h e g i =
       let w = next_from f c s.place in
       let fits : n < length out = omega (arith, i.size) in
       let less : length out₀ - n ≡ suc (length out₀ - (n + 1)) = omega arith in
       let low = i.grown in
       let place' : s'.place ≡ w.place = ap (λ (x : Report). x.place) g in
-      let stretches' : s'.stretches ≡ s.stretches + w.stretches = ap (λ (x : Report). x.stretches) g in
+      let stretches' : s'.stretches ≡ s.stretches + w.taken.stretches = ap (λ (x : Report). x.stretches) g in
       let handed' : s'.handed ≡ s.handed + 1 = ap (λ (x : Report). x.handed) g ∙ ap (λ (o : Option ℕ). s.handed + handed_by o) (sym e) in
-      let diff : s.stretches - s₀.stretches + w.stretches ≡ s'.stretches - s₀.stretches = omega arith in
-      let front : take n out ++ (q ∷ []) ≡ take (n + 1) (set out n q) = sym (take-suc-set out n q fits) ∙ ap (λ (k : ℕ). take k (set out n q)) (sym (add-one n)) in
+      let diff : s.stretches - s₀.stretches + w.taken.stretches ≡ s'.stretches - s₀.stretches = omega arith in
+      let front = front_more n out q fits in
       record {
         size = length-set out n q ∙ i.size;
         wrote = i.wrote
             ∙ ap (λ (k : ℕ). onto (take n out) (s.stretches - s₀.stretches) (sheet_from f c k s.place)) less
             ∙ ap (onto (take n out) (s.stretches - s₀.stretches)) (sheet_some f c (length out₀ - (n + 1)) s.place q (sym e))
-            ∙ onto_onto (take n out) q (s.stretches - s₀.stretches) w.stretches (sheet_from f c (length out₀ - (n + 1)) w.place)
+            ∙ onto_onto (take n out) q (s.stretches - s₀.stretches) w.taken.stretches (sheet_from f c (length out₀ - (n + 1)) w.place)
             ∙ (λ j. onto (front j) (diff j) (sheet_from f c (length out₀ - (n + 1)) (sym place' j)));
-        kept = drop-set-lt (n + 1) out n q (omega arith) ∙ sym (drop-drop 1 n out) ∙ ap (drop 1) i.kept ∙ drop-drop 1 n out₀;
+        kept = kept_more n out out₀ q i.kept;
         many = omega (arith, i.many);
         grown = omega arith;
       }
@@ -76,29 +77,30 @@ module _ (f c : List Bool) (s₀ : Report) (out₀ : List ℕ) where
       let bays : page.bays ≡ take n out = ap (λ (r : Page). r.bays) all ∙ append-nil (take n out) in
       let place' : page.place ≡ s.place = ap (λ (r : Page). r.place) all in
       let took : page.stretches ≡ t = ap (λ (r : Page). r.stretches) all in
-      let long : length page.bays ≡ n = ap length bays ∙ length-take n out ∙ omega arith in
+      let written = is_over n page.bays out out₀ (omega arith) bays kept in
+      let long = written.0 in
       let handed' : s.handed ≡ s₀.handed + length page.bays = omega arith in
       let stretches' : s.stretches ≡ s₀.stretches + page.stretches = omega arith in
       record {
         counts = omega arith;
         takes = omega arith;
-        writes = sym (take-append-drop n out) ∙ ap (λ (ws : List ℕ). take n out ++ ws) kept ∙ (λ j. sym bays j ++ drop (sym long j) out₀);
+        writes = written.1;
         state = λ j. record { handed = handed' j; stretches = stretches' j; place = sym place' j };
       }
 
-  pub done_none : (n : ℕ) (s s' : Report) (out : List ℕ) → n < length out₀ → None ≡ (next_from f c s.place).bay → s' ≡ after_next f c s → Going f c s₀ out₀ n s out → Done f c s₀ out₀ s' out
+  pub done_none : (n : ℕ) (s s' : Report) (out : List ℕ) → n < length out₀ → None ≡ (next_from f c s.place).taken.bay → s' ≡ after_next f c s → Going f c s₀ out₀ n s out → Done f c s₀ out₀ s' out
   done_none n s s' out h e g i =
       let w = next_from f c s.place in
       let low = i.grown in
       let less : length out₀ - n ≡ suc (length out₀ - (n + 1)) = omega arith in
       let place' : s'.place ≡ w.place = ap (λ (x : Report). x.place) g in
-      let stretches' : s'.stretches ≡ s.stretches + w.stretches = ap (λ (x : Report). x.stretches) g in
+      let stretches' : s'.stretches ≡ s.stretches + w.taken.stretches = ap (λ (x : Report). x.stretches) g in
       let handed' : s'.handed ≡ s.handed + 0 = ap (λ (x : Report). x.handed) g ∙ ap (λ (o : Option ℕ). s.handed + handed_by o) (sym e) in
-      done n (s.stretches - s₀.stretches + w.stretches) s' out (omega arith) i.size i.kept (omega (arith, i.many)) (omega arith)
+      done n (s.stretches - s₀.stretches + w.taken.stretches) s' out (omega arith) i.size i.kept (omega (arith, i.many)) (omega arith)
       (i.wrote
       ∙ ap (λ (k : ℕ). onto (take n out) (s.stretches - s₀.stretches) (sheet_from f c k s.place)) less
       ∙ ap (onto (take n out) (s.stretches - s₀.stretches)) (sheet_none f c (length out₀ - (n + 1)) s.place (sym e))
-      ∙ (λ j. record { bays = take n out ++ []; place = sym place' j; stretches = s.stretches - s₀.stretches + w.stretches }))
+      ∙ (λ j. record { bays = take n out ++ []; place = sym place' j; stretches = s.stretches - s₀.stretches + w.taken.stretches }))
 
   pub done_full : (n : ℕ) (s : Report) (out : List ℕ) → n ≡ length out₀ → Going f c s₀ out₀ n s out → Done f c s₀ out₀ s out
   done_full n s out h i =

@@ -20,7 +20,7 @@ bay_of (Some b) = b ∷ []
 
 module _ (f c : List Bool) where
   abbrev WalkedTo : ℕ → ℕ → Walked → Type 0
-  WalkedTo p n r = (k : ℕ) × (Made f c p r.place (bay_of r.bay) k × (r.stretches ≡ n + k))
+  WalkedTo p n r = (k : ℕ) × (Made f c p r.place (bay_of r.taken.bay) k × (r.taken.stretches ≡ n + k))
 
   walk_made : (m p n : ℕ) → 1 ≤ p → WalkedTo p n (walk f c m p n)
   unfolding walk
@@ -35,38 +35,38 @@ module _ (f c : List Bool) where
       let on = walk_made m (larger f c p) (n + 1) (omega arith) in
       let r = walk f c m (larger f c p) (n + 1) in
       subst (WalkedTo p n) (sym (walk_on f c m p n within e))
-      (1 + on.0, (made_join f c p (larger f c p) r.place [] (bay_of r.bay) 1 on.0 (made_on f c p l within e) on.1.0, omega (arith, on.1.1))))
+      (1 + on.0, (made_join f c p (larger f c p) r.place [] (bay_of r.taken.bay) 1 on.0 (made_on f c p l within e) on.1.0, omega (arith, on.1.1))))
       (cases_Bool (common f c p)))
       (cases_lt (end f c) p)
 
-  pub next_made : (p : ℕ) → 1 ≤ p → Made f c p (next_from f c p).place (bay_of (next_from f c p).bay) (next_from f c p).stretches
+  pub next_made : (p : ℕ) → 1 ≤ p → Made f c p (next_from f c p).place (bay_of (next_from f c p).taken.bay) (next_from f c p).taken.stretches
   unfolding next_from
   next_made p l =
       let r = walk f c (suc (end f c) - p) p 0 in
       let w = walk_made (suc (end f c) - p) p 0 l in
-      let same : w.0 ≡ r.stretches = omega (arith, w.1.1) in
-      subst (Made f c p r.place (bay_of r.bay)) same w.1.0
+      let same : w.0 ≡ r.taken.stretches = omega (arith, w.1.1) in
+      subst (Made f c p r.place (bay_of r.taken.bay)) same w.1.0
 
   -- of a value that is equal to the walk's
-  pub fewest_at : (p : ℕ) (r : Walked) → 1 ≤ p → r ≡ next_from f c p → Fewest f c (Between p r.place) r.stretches
-  fewest_at p r l e = subst (λ (x : Walked). Fewest f c (Between p x.place) x.stretches) (sym e) (made_fewest f c p _ _ _ (next_made p l))
+  pub fewest_at : (p : ℕ) (r : Walked) → 1 ≤ p → r ≡ next_from f c p → Fewest f c (Between p r.place) r.taken.stretches
+  fewest_at p r l e = subst (λ (x : Walked). Fewest f c (Between p x.place) x.taken.stretches) (sym e) (made_fewest f c p _ _ _ (next_made p l))
 
   -- ---- a sheet
 
   abbrev PageTo : ℕ → Page → Type 0
   PageTo p r = Made f c p r.place r.bays r.stretches
 
-  page_made : (p : ℕ) (w : Walked) (r : Page) (o : Option ℕ) → Made f c p w.place (bay_of o) w.stretches → PageTo w.place r → PageTo p (paged o w r)
+  page_made : (p : ℕ) (w : Walked) (r : Page) (o : Option ℕ) → Made f c p w.place (bay_of o) w.taken.stretches → PageTo w.place r → PageTo p (paged o w r)
   page_made p w r None a b = a
-  page_made p w r (Some q) a b = made_join f c p w.place r.place (q ∷ []) r.bays w.stretches r.stretches a b
+  page_made p w r (Some q) a b = made_join f c p w.place r.place (q ∷ []) r.bays w.taken.stretches r.stretches a b
 
   sheet_made : (k p : ℕ) → 1 ≤ p → PageTo p (sheet_from f c k p)
   sheet_made zero p l = subst (PageTo p) (sym (sheet_full f c p)) (made_none f c p)
   sheet_made (suc k) p l =
       let w = next_from f c p in
       let a = next_made p l in
-      let up = steps_up suc p w.place (bay_of w.bay) a.rises in
-      subst (PageTo p) (sym (sheet_step f c k p)) (page_made p w (sheet_from f c k w.place) w.bay a (sheet_made k w.place (omega arith)))
+      let up = steps_up suc p w.place (bay_of w.taken.bay) a.rises in
+      subst (PageTo p) (sym (sheet_step f c k p)) (page_made p w (sheet_from f c k w.place) w.taken.bay a (sheet_made k w.place (omega arith)))
 
   abbrev PageStops : ℕ → ℕ → Page → Type 0
   PageStops p k r = Stops f c p k r.bays r.place
@@ -83,7 +83,7 @@ module _ (f c : List Bool) where
   sheet_stops zero p = subst (PageStops p 0) (sym (sheet_full f c p)) (record { fits = omega arith; full = λ e. refl; short = λ l. absurd (omega arith) })
   sheet_stops (suc k) p =
       let w = next_from f c p in
-      subst (PageStops p (suc k)) (sym (sheet_step f c k p)) (page_stops p k w (sheet_from f c k w.place) w.bay (next_handed f c p) (sheet_stops k w.place))
+      subst (PageStops p (suc k)) (sym (sheet_step f c k p)) (page_stops p k w (sheet_from f c k w.place) w.taken.bay (next_handed f c p) (sheet_stops k w.place))
 
   sheet_is : (k p : ℕ) → 1 ≤ p → SheetIs f c p k (sheet_from f c k p).bays (sheet_from f c k p).place
   sheet_is k p l = record { listed = made_listed f c p _ _ _ (sheet_made k p l); stops = sheet_stops k p }

@@ -1,6 +1,7 @@
 -- One step of the walk, and that each stretch takes a bay or more.
-use Rattle.std.proofs.Common.{◌≡◌, ℕ, zero, suc, ◌+◌, ◌-◌, ◌<◌, ◌≤◌, min, max, Bool, true, false, leb, ◌⊎◌, List, Some, None, Option, sym, refl, ap, ◌∙◌, inl, inr, ⊎_elim, arith}
+use Rattle.std.proofs.Common.{◌≡◌, ℕ, zero, suc, ◌+◌, ◌-◌, ◌<◌, ◌≤◌, min, max, Bool, true, false, leb, List, Some, None, Option, sym, refl, ap, ◌∙◌, ⊎_elim, arith}
 use Rattle.std.proofs.lemmas.Bool.{cond-true, cond-false, and_parts, and_cases, cases_Bool, cases_lt, cases_eq, both_ways, le-leb, lt-leb}
+use Rattle.std.specs.Option.{unwrap_or}
 use Rattle.sets.specs.Sets.{is, is_member, next_of}
 use Rattle.sets.specs.Laws.{NextIs}
 use Rattle.sets.specs.declared.Sort.TheVariants.{Members}
@@ -22,6 +23,10 @@ stop_end : (w : ℕ) (r : Option ℕ) → stop w r ≤ suc w
 stop_end w None = omega arith
 stop_end w (Some q) = omega arith
 
+stop_read : (w : ℕ) (r : Option ℕ) → min (unwrap_or r (suc w)) (suc w) ≡ stop w r
+stop_read w None = omega arith
+stop_read w (Some q) = refl
+
 module _ (f c : List Bool) where
   pub larger_past : (p : ℕ) → p ≤ end f c → common f c p ≡ false → p < larger f c p
   unfolding common larger
@@ -38,17 +43,10 @@ module _ (f c : List Bool) where
   unfolding larger
   larger_end p = omega (arith, stop_end (end f c) (next_of f Members p), stop_end (end f c) (next_of c Members p))
 
-  -- the two next members taken apart
-  pub larger_some : (p a b : ℕ) → next_of f Members p ≡ Some a → next_of c Members p ≡ Some b → min (max a b) (suc (end f c)) ≡ larger f c p
+  -- the larger of the two next members, each read as one past the end where there is none, cut to that
+  pub larger_read : (p : ℕ) → min (max (unwrap_or (next_of f Members p) (suc (end f c))) (unwrap_or (next_of c Members p) (suc (end f c)))) (suc (end f c)) ≡ larger f c p
   unfolding larger
-  larger_some p a b ef ec =
-      let apart : min (max a b) (suc (end f c)) ≡ max (min a (suc (end f c))) (min b (suc (end f c))) = omega arith in
-      apart ∙ (λ i. max (stop (end f c) (sym ef i)) (stop (end f c) (sym ec i)))
-
-  pub larger_none : (p : ℕ) → (next_of f Members p ≡ None) ⊎ (next_of c Members p ≡ None) → suc (end f c) ≡ larger f c p
-  unfolding larger
-  larger_none p (inl e) = omega (arith, ap (stop (end f c)) e, stop_end (end f c) (next_of c Members p))
-  larger_none p (inr e) = omega (arith, ap (stop (end f c)) e, stop_end (end f c) (next_of f Members p))
+  larger_read p = omega (arith, stop_read (end f c) (next_of f Members p), stop_read (end f c) (next_of c Members p))
 
   larger_here : (p : ℕ) → p ≤ end f c → common f c p ≡ true → larger f c p ≡ p
   unfolding common larger
@@ -58,22 +56,22 @@ module _ (f c : List Bool) where
       let ec = ap (stop (end f c)) (next_here c Members p both.1) in
       omega arith
 
-  pub common_if : (p : ℕ) → p ≤ end f c → larger f c p ≡ p → common f c p ≡ true
+  common_if : (p : ℕ) → p ≤ end f c → larger f c p ≡ p → common f c p ≡ true
   common_if p l e = ⊎_elim (λ h. h) (λ h. absurd (let past = larger_past p l h in omega arith)) (cases_Bool (common f c p))
 
-  pub common_not : (p : ℕ) → p ≤ end f c → (larger f c p ≡ p → ⊥) → common f c p ≡ false
+  common_not : (p : ℕ) → p ≤ end f c → (larger f c p ≡ p → ⊥) → common f c p ≡ false
   common_not p l e = ⊎_elim (λ h. absurd (e (larger_here p l h))) (λ h. h) (cases_Bool (common f c p))
 
   -- the walk from p on, n stretches having been taken
   unfoldable pub rest : ℕ → ℕ → Walked
   rest p n = walk f c (suc (end f c) - p) p n
 
-  pub walk_end : (m p n : ℕ) → end f c < p → walk f c m p n ≡ record { bay = None; place = p; stretches = n }
+  pub walk_end : (m p n : ℕ) → end f c < p → walk f c m p n ≡ record { taken = record { bay = None; stretches = n }; place = p }
   unfolding walk
   walk_end zero p n h = refl
   walk_end (suc m) p n h = cond-false (leb p (end f c)) _ _ (lt-leb p (end f c) h)
 
-  pub walk_here : (m p n : ℕ) → 0 < m → p ≤ end f c → common f c p ≡ true → walk f c m p n ≡ record { bay = Some p; place = p + 1; stretches = n + 1 }
+  pub walk_here : (m p n : ℕ) → 0 < m → p ≤ end f c → common f c p ≡ true → walk f c m p n ≡ record { taken = record { bay = Some p; stretches = n + 1 }; place = p + 1 }
   unfolding walk
   walk_here zero p n z h e = absurd (omega arith)
   walk_here (suc m) p n z h e = cond-true (leb p (end f c)) _ _ (le-leb p (end f c) h) ∙ cond-true (common f c p) _ _ e
@@ -97,15 +95,15 @@ module _ (f c : List Bool) where
       (cases_Bool (common f c p)))
       (cases_lt (end f c) p)
 
-  pub rest_end : (p n : ℕ) → end f c < p → rest p n ≡ record { bay = None; place = p; stretches = n }
+  pub rest_end : (p n : ℕ) → end f c < p → rest p n ≡ record { taken = record { bay = None; stretches = n }; place = p }
   unfolding rest
   rest_end p n h = walk_end (suc (end f c) - p) p n h
 
-  pub rest_here : (p n : ℕ) → p ≤ end f c → common f c p ≡ true → rest p n ≡ record { bay = Some p; place = p + 1; stretches = n + 1 }
+  rest_here : (p n : ℕ) → p ≤ end f c → common f c p ≡ true → rest p n ≡ record { taken = record { bay = Some p; stretches = n + 1 }; place = p + 1 }
   unfolding rest
   rest_here p n h e = walk_here (suc (end f c) - p) p n (omega arith) h e
 
-  pub rest_on : (p n : ℕ) → p ≤ end f c → common f c p ≡ false → rest p n ≡ rest (larger f c p) (n + 1)
+  rest_on : (p n : ℕ) → p ≤ end f c → common f c p ≡ false → rest p n ≡ rest (larger f c p) (n + 1)
   unfolding rest
   rest_on p n h e =
       let past = larger_past p h e in
@@ -114,6 +112,17 @@ module _ (f c : List Bool) where
       let d = larger f c p - suc p in
       let sum : suc (end f c) - p ≡ suc (m + d) = omega arith in
       ap (λ x. walk f c x p n) sum ∙ walk_on (m + d) p n h e ∙ walk_enough m d (larger f c p) (n + 1) (omega arith)
+
+  -- a stretch from p that reached m ended at a common bay,
+  pub step_here : (p m n : ℕ) → p ≤ end f c → m ≡ larger f c p → m ≡ p → ◌≡◌ {A = Walked} (record { taken = record { bay = Some p; stretches = n + 1 }; place = p + 1 }) (rest p n)
+  step_here p m n l e same = sym (rest_here p n l (common_if p l (sym e ∙ same)))
+
+  -- or the walk goes on from m
+  pub step_on : (p m n : ℕ) → p ≤ end f c → m ≡ larger f c p → (m ≡ p → ⊥) → (p < m) × (m ≤ suc (end f c)) × (rest m (n + 1) ≡ rest p n)
+  step_on p m n l e differ =
+      let apart = common_not p l (λ same. differ (e ∙ same)) in
+      let past = larger_past p l apart in
+      (omega (arith, e), omega (arith, e, larger_end p), ap (λ k. rest k (n + 1)) e ∙ sym (rest_on p n l apart))
 
   pub rest_start : (p : ℕ) → rest p 0 ≡ next_from f c p
   unfolding rest next_from

@@ -1,6 +1,7 @@
 -- The laws of the calls that can be refused, in a round that ends at w: which refusal comes for which reason, and what the answer is
 -- in the words of the free bays.
-use Rattle.std.specs.Prelude.{◌≡◌, ℕ, suc, ◌+◌, ◌-◌, ◌<◌, ◌≤◌, Bool, true, false, ◌⊎◌, List, length, Some, None, Ok, Err, Option, Result, slice_index}
+use Rattle.std.specs.Prelude.{◌≡◌, ℕ, suc, ◌-◌, ◌<◌, ◌≤◌, Bool, true, false, ◌⊎◌, List, length, Some, None, Ok, Err, Option, Result, slice_index}
+use Rattle.std.specs.Int.{abs_diff}
 use Rattle.faults.specs.Numbers.{RefusedBy}
 use Rattle.faults.specs.declared.fault.Refusal.{Refusal}
 use Rattle.sets.specs.Lists.{ListOf}
@@ -21,15 +22,12 @@ CountIs f w a b (Ok n) =
     × ((bays : List ℕ) × (ListOf (λ j. (a ≤ j) × (j ≤ b) × (is_member f j ≡ true)) bays × (length bays ≡ n)))
 CountIs f w a b (Err e) = RefusedBy 7 e ((a ≡ 0) ⊎ (b < a)) ⊎ RefusedBy 9 e ((1 ≤ a) × (a ≤ b) × (w < b))
 
-abbrev pub distance : ℕ → ℕ → ℕ
-distance p q = (p - q) + (q - p)
-
 -- a member up to w such that each other is farther from p, or as far and higher; none where there is no member up to w
 abbrev pub Nearest : List Bool → ℕ → ℕ → Option ℕ → Type 0
 Nearest f w p None = (j : ℕ) → j ≤ w → is_member f j ≡ false
 Nearest f w p (Some q) =
     (q ≤ w) × (is_member f q ≡ true)
-    × ((j : ℕ) → j ≤ w → is_member f j ≡ true → (distance p q ≤ distance p j) × (distance p j ≡ distance p q → q ≤ j))
+    × ((j : ℕ) → j ≤ w → is_member f j ≡ true → (abs_diff p q ≤ abs_diff p j) × (abs_diff p j ≡ abs_diff p q → q ≤ j))
 
 abbrev pub NearestIs : List Bool → ℕ → ℕ → Result (Option ℕ) Refusal → Type 0
 NearestIs f w p (Ok r) = (1 ≤ p) × (p ≤ w) × Nearest f w p r

@@ -1,5 +1,6 @@
 -- What the calls that can be refused answer, in a round that ends at w: the first refusal that fits, or the result.
 use Rattle.std.specs.Prelude.{ℕ, suc, ◌-◌, Bool, cond, ◌&&◌, List, length, Some, None, Ok, Err, Option, Result, nat_le, slice_index}
+use Rattle.std.specs.Option.{ok_or}
 use Rattle.faults.specs.declared.fault.Refusal.{Refusal}
 use Rattle.faults.specs.declared.fault.Refusal.TheVariants.{NoBay, NoSign, Beyond, Behind, TooFew}
 use Rattle.sets.specs.Search.{count_to}
@@ -46,10 +47,5 @@ nearest_post f w (Err e) = Err e
 abbrev pub sign_at : List Bool → ℕ → ℕ → Result (Option ℕ) Refusal
 sign_at f w s = nearest_post f w (post_of s)
 
--- the bay, if there is one
-abbrev pub picked : Option ℕ → Result ℕ Refusal
-picked None = Err TooFew
-picked (Some q) = Ok q
-
 abbrev pub pick_from : List Bool → ℕ → ℕ → Result ℕ Refusal
-pick_from f w k = cond (nat_le 1 k) (cond (nat_le k (rank_of f Members w)) (picked (select_of f Members k)) (Err TooFew)) (Err NoBay)
+pick_from f w k = cond (nat_le 1 k) (cond (nat_le k (rank_of f Members w)) (ok_or (select_of f Members k) TooFew) (Err TooFew)) (Err NoBay)

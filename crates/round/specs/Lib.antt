@@ -5,6 +5,7 @@ pub mod Stretches
 pub mod Handed
 pub mod Sheets
 pub mod States
+pub mod Rounds
 pub mod Posts
 pub mod Calls
 pub mod Answers

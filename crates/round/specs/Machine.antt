@@ -24,11 +24,11 @@ module _ (f c : List Bool) where
 
   -- at most m stretches from p on, after n others, until one is a common bay or the round is at its end
   unfoldable pub walk : ℕ → ℕ → ℕ → Walked
-  walk zero p n = record { bay = None; place = p; stretches = n }
+  walk zero p n = record { taken = record { bay = None; stretches = n }; place = p }
   walk (suc m) p n =
       cond (nat_le p (end f c))
-      (cond (common p) (record { bay = Some p; place = p + 1; stretches = n + 1 }) (walk m (larger p) (n + 1)))
-      (record { bay = None; place = p; stretches = n })
+      (cond (common p) (record { taken = record { bay = Some p; stretches = n + 1 }; place = p + 1 }) (walk m (larger p) (n + 1)))
+      (record { taken = record { bay = None; stretches = n }; place = p })
 
   -- each stretch takes a bay or more, so that as many stretches as there are bays suffice
   unfoldable pub next_from : ℕ → Walked

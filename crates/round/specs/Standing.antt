@@ -1,5 +1,8 @@
--- What every round keeps: its place is from 1 to 65,536, each bay handed out took a stretch, and each stretch took a bay or more.
-use Rattle.std.specs.Prelude.{ℕ, ◌<◌, ◌≤◌}
+-- What every round keeps, over the free set f and the class c: its place is from 1 to the one behind its last bay, each bay handed
+-- out took a stretch, and each stretch took a bay or more.
+use Rattle.std.specs.Prelude.{suc, ◌<◌, ◌≤◌, Bool, List}
+use Rattle.round.specs.declared.state.Report.{Report}
+use Rattle.round.specs.Machine.{end}
 
-abbrev pub Standing : ℕ → ℕ → ℕ → Type 0
-Standing place handed stretches = (1 ≤ place) × (place ≤ 65536) × (handed ≤ stretches) × (stretches < place)
+abbrev pub Standing : List Bool → List Bool → Report → Type 0
+Standing f c s = (1 ≤ s.place) × (s.place ≤ suc (end f c)) × (s.handed ≤ s.stretches) × (s.stretches < s.place)

@@ -2,12 +2,8 @@
 use Rattle.std.specs.Prelude.{ℕ, ◌+◌, Bool, List, length, Some, None, Ok, Err, Option, Result}
 use Rattle.faults.specs.declared.fault.Refusal.{Refusal}
 use Rattle.round.specs.declared.state.Report.{Report}
-use Rattle.round.specs.declared.state.Round.{Round}
 use Rattle.round.specs.Machine.{next_from}
 use Rattle.round.specs.Sheets.{Page}
-
-abbrev pub state_of : {X Y : Type 0} {x : _} {y : _} → Round X Y x y → Report
-state_of r = record { handed = r.handed; stretches = r.stretches; place = r.place }
 
 abbrev pub fresh : Report
 fresh = record { handed = 0; stretches = 0; place = 1 }
@@ -20,7 +16,7 @@ handed_by (Some q) = 1
 abbrev pub after_next : List Bool → List Bool → Report → Report
 after_next f c s =
     let w = next_from f c s.place in
-    record { handed = s.handed + handed_by w.bay; stretches = s.stretches + w.stretches; place = w.place }
+    record { handed = s.handed + handed_by w.taken.bay; stretches = s.stretches + w.taken.stretches; place = w.place }
 
 abbrev pub after_sheet : Report → Page → Report
 after_sheet s r = record { handed = s.handed + length r.bays; stretches = s.stretches + r.stretches; place = r.place }

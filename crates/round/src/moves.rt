@@ -2,14 +2,14 @@
 ghost use Rattle.std.specs.Prelude.{◌≡◌, length, take, Ok, Err};
 ghost use Rattle.round.specs.Answers.{GoIs};
 ghost use Rattle.round.specs.Calls.{go_to};
-ghost use Rattle.round.specs.Handed.{HandedIs, SheetIs};
-ghost use Rattle.round.specs.Machine.{end, next_from};
-ghost use Rattle.round.specs.Sheets.{sheet_from, over};
-ghost use Rattle.round.specs.States.{state_of, fresh, after_next, after_sheet, after_go};
-ghost use Rattle.round.specs.Stretches.{Between, Fewest};
+ghost use Rattle.round.specs.Handed.{HandedIs};
+ghost use Rattle.round.specs.Rounds.{free_of, class_of, last_bay, walk_of, page_of, Sheeted, SameSets, Passed};
+ghost use Rattle.round.specs.Sheets.{over, written_of};
+ghost use Rattle.round.specs.States.{fresh, after_next, after_sheet, after_go};
+ghost use Rattle.round.specs.Stretches.{Fewest};
 
 use super::state::{Report, Round, Taken, Written};
-use super::walk::{end_of, walk_from};
+use super::walk::Walked;
 use faults::Refusal;
 use sets::{Counting, Walking};
 
@@ -17,48 +17,43 @@ impl<F: Counting, C: Walking> Round<F, C> {
     /// A fresh round.
     pub fn new(free: F, class: C) -> Round<F, C>
         ensures sets { (result.free ≡ free) × (result.class ≡ class) }
-        ensures state { state_of result ≡ fresh }
+        ensures state { result.state ≡ fresh }
     {
-        Round {
-            free,
-            class,
-            place: 1,
+        let state = Report {
             handed: 0,
             stretches: 0,
-        }
+            place: 1,
+        };
+        Round { free, class, state }
     }
 
     /// Takes stretches until one is a common bay, or the round is at its end.
     pub fn next(&mut self) -> Taken
-        ensures step { let f = F.Walking.meant self.old.free in let c = C.Walking.meant self.old.class in let w = next_from f c self.old.place in result ≡ record { bay = w.bay; stretches = w.stretches } }
-        ensures first { let f = F.Walking.meant self.old.free in let c = C.Walking.meant self.old.class in HandedIs f c self.old.place result.bay self.new.place }
-        ensures fewest { let f = F.Walking.meant self.old.free in let c = C.Walking.meant self.old.class in Fewest f c (Between self.old.place self.new.place) result.stretches }
-        ensures state { let f = F.Walking.meant self.old.free in let c = C.Walking.meant self.old.class in state_of self.new ≡ after_next f c (state_of self.old) }
-        ensures sets { (self.new.free ≡ self.old.free) × (self.new.class ≡ self.old.class) }
+        ensures step { result ≡ (walk_of self.old).taken }
+        ensures first { HandedIs (free_of self.old) (class_of self.old) self.old.state.place result.bay self.new.state.place }
+        ensures fewest { Fewest (free_of self.old) (class_of self.old) (Passed self.old self.new.state.place) result.stretches }
+        ensures state { self.new.state ≡ after_next (free_of self.old) (class_of self.old) self.old.state }
+        ensures sets { SameSets self.old self.new }
     {
-        let walked = walk_from(&self.free, &self.class, self.place);
-        self.place = walked.place;
-        self.stretches += walked.stretches;
-        if walked.bay.is_some() {
-            self.handed += 1;
-        }
-        Taken {
-            bay: walked.bay,
-            stretches: walked.stretches,
-        }
+        let Walked { taken, place } = self.walk();
+        self.state = Report {
+            handed: self.state.handed + u32::from(taken.bay.is_some()),
+            stretches: self.state.stretches + taken.stretches,
+            place,
+        };
+        taken
     }
 
     /// Writes bays as `next` gives them, from the front of `out` on, until it is full or no bay is left.
     pub fn sheet(&mut self, out: &mut [u32]) -> Written
-        ensures answer { let f = F.Walking.meant self.old.free in let c = C.Walking.meant self.old.class in let p = sheet_from f c (length out.old) self.old.place in result ≡ record { bays = length p.bays; stretches = p.stretches } }
-        ensures writes { let f = F.Walking.meant self.old.free in let c = C.Walking.meant self.old.class in let p = sheet_from f c (length out.old) self.old.place in out.new ≡ over p.bays out.old }
-        ensures first { let f = F.Walking.meant self.old.free in let c = C.Walking.meant self.old.class in SheetIs f c self.old.place (length out.old) (take result.bays out.new) self.new.place }
-        ensures fewest { let f = F.Walking.meant self.old.free in let c = C.Walking.meant self.old.class in Fewest f c (Between self.old.place self.new.place) result.stretches }
-        ensures state { let f = F.Walking.meant self.old.free in let c = C.Walking.meant self.old.class in state_of self.new ≡ after_sheet (state_of self.old) (sheet_from f c (length out.old) self.old.place) }
-        ensures sets { (self.new.free ≡ self.old.free) × (self.new.class ≡ self.old.class) }
+        ensures answer { result ≡ written_of (page_of self.old (length out.old)) }
+        ensures writes { out.new ≡ over (page_of self.old (length out.old)).bays out.old }
+        ensures first { Sheeted self.old (length out.old) (take result.bays out.new) self.new }
+        ensures fewest { Fewest (free_of self.old) (class_of self.old) (Passed self.old self.new.state.place) result.stretches }
+        ensures state { self.new.state ≡ after_sheet self.old.state (page_of self.old (length out.old)) }
+        ensures sets { SameSets self.old self.new }
     {
-        let handed = self.handed;
-        let stretches = self.stretches;
+        let before = self.state;
         for slot in out.iter_mut() {
             let Some(bay) = self.next().bay else {
                 break;
@@ -66,29 +61,29 @@ impl<F: Counting, C: Walking> Round<F, C> {
             *slot = bay;
         }
         Written {
-            bays: self.handed - handed,
-            stretches: self.stretches - stretches,
+            bays: self.state.handed - before.handed,
+            stretches: self.state.stretches - before.stretches,
         }
     }
 
     /// Goes on to the place `q`, without passing the bays between.
     pub fn go(&mut self, q: u32) -> Result<(), Refusal>
-        ensures answer { let f = F.Walking.meant self.old.free in let c = C.Walking.meant self.old.class in result ≡ go_to (end f c) self.old.place q }
-        ensures law { let f = F.Walking.meant self.old.free in let c = C.Walking.meant self.old.class in GoIs (end f c) self.old.place q result }
-        ensures state { state_of self.new ≡ after_go result (state_of self.old) q }
+        ensures answer { result ≡ go_to (last_bay self.old) self.old.state.place q }
+        ensures law { GoIs (last_bay self.old) self.old.state.place q result }
+        ensures state { self.new.state ≡ after_go result self.old.state q }
         ensures refused { elim result [ Ok _ ↦ Unit {0} | Err _ ↦ self.new ≡ self.old ] }
-        ensures sets { (self.new.free ≡ self.old.free) × (self.new.class ≡ self.old.class) }
+        ensures sets { SameSets self.old self.new }
     {
         if q == 0 {
             return Err(Refusal::NoBay);
         }
-        if q > end_of(&self.free, &self.class) + 1 {
+        if q > self.last_bay() + 1 {
             return Err(Refusal::Beyond);
         }
-        if q < self.place {
+        if q < self.state.place {
             return Err(Refusal::Behind);
         }
-        self.place = q;
+        self.state.place = q;
         Ok(())
     }
 }
@@ -96,19 +91,13 @@ impl<F: Counting, C: Walking> Round<F, C> {
 impl<F: Counting + Drop, C: Walking + Drop> Round<F, C> {
     /// Spends the round.
     pub fn close(self) -> Report
-        ensures { result ≡ state_of self }
+        ensures { result ≡ self.state }
     {
         let Round {
             free: _,
             class: _,
-            place,
-            handed,
-            stretches,
+            state,
         } = self;
-        Report {
-            handed,
-            stretches,
-            place,
-        }
+        state
     }
 }

@@ -20,8 +20,8 @@ pub(crate) fn post_of(sign: u32) -> Result<u32, Refusal>
     ensures answer { result ≡ post_of sign }
     ensures law { PostIs sign result }
 {
-    match sign {
-        1..=16 => Ok(POSTS[sign as usize - 1]),
-        _ => Err(Refusal::NoSign),
-    }
+    sign.checked_sub(1)
+        .and_then(|before| POSTS.get(before as usize))
+        .copied()
+        .ok_or(Refusal::NoSign)
 }

@@ -7,10 +7,9 @@ use sets::{Counting, Walking};
 pub struct Round<F: Counting, C: Walking> {
     pub(crate) free: F,
     pub(crate) class: C,
-    pub(crate) place: u32,
-    pub(crate) handed: u32,
-    pub(crate) stretches: u32,
-    ghost ok: { Standing place handed stretches },
+    // What the round would give if it were closed.
+    pub(crate) state: Report,
+    ghost ok: { Standing (F.Walking.meant free) (C.Walking.meant class) state },
 }
 
 /// What `next` took: the common bay, if there was one, and the number of stretches.

@@ -9,9 +9,7 @@ impl fmt::Display for Taken {
     ghost output = { λ t. Some (taken_text t) };
 
     fn fmt<W: fmt::Write>(&self, f: &mut fmt::Formatter<W>) -> fmt::Result {
-        let bay = self.bay.unwrap_or(0);
-        let stretches = self.stretches;
-        write!(f, "{bay} {stretches}")
+        write!(f, "{} {}", self.bay.unwrap_or(0), self.stretches)
     }
 }
 
@@ -19,9 +17,6 @@ impl fmt::Display for Report {
     ghost output = { λ r. Some (report_text r) };
 
     fn fmt<W: fmt::Write>(&self, f: &mut fmt::Formatter<W>) -> fmt::Result {
-        let handed = self.handed;
-        let stretches = self.stretches;
-        let place = self.place;
-        write!(f, "{handed} {stretches} {place}")
+        write!(f, "{} {} {}", self.handed, self.stretches, self.place)
     }
 }

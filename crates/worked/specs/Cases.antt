@@ -62,7 +62,7 @@ Right (lists f c r) = play f c (suc (end f c)) fresh ≡ r
 Right (goes f c s q n t) = let r = go_to (end f c) s.place q in (number r ≡ n) × (after_go r s q ≡ t)
 Right (takes f c s t u) =
     let w = next_from f c s.place in
-    (row w.bay w.stretches ≡ t) × (after_next f c s ≡ u)
+    (w.taken ≡ t) × (after_next f c s ≡ u)
 Right (sheet f c k r) = sheet_from f c k 1 ≡ r
 
 abbrev at : ℕ → ℕ → ℕ → Report

@@ -25,12 +25,12 @@ cut_first f p u n l = cut (first_from f p (suc n - p)) (first_law f p (suc n - p
         (λ e. let high = leb-false q u e in first_by f p _ None (λ j a b. law.3 j a (omega arith)))
 
 module _ (z : Zombit) (sort : Sort) where
-  pub next_is : (i : ℕ) → cut_at z.last (first_place z sort (max i 1)) ≡ next_of (set_of z.last z.size z.uniform.now z.marked.now z.mixed.now) sort i
-  next_is i = cut_first _ (max i 1) z.last (places z) (places_cover z) ∙ made_next z.last (bays z) sort i
+  pub next_is : (i : ℕ) → cut_at z.blocks.last (first_place z sort (max i 1)) ≡ next_of (set_of z.blocks.last z.blocks.size z.uniform.now z.marked.now z.mixed.now) sort i
+  next_is i = cut_first _ (max i 1) z.blocks.last (places z) (places_cover z) ∙ made_next z.blocks.last (bays z) sort i
 
-  pub select_is : (n : ℕ) → cut_at z.last (kth_to (sorted z sort) n (places z)) ≡ select_of (set_of z.last z.size z.uniform.now z.marked.now z.mixed.now) sort n
-  select_is n = cut_kth _ n z.last (places z) (places_cover z) ∙ made_select z.last (bays z) sort n
+  pub select_is : (n : ℕ) → cut_at z.blocks.last (kth_to (sorted z sort) n (places z)) ≡ select_of (set_of z.blocks.last z.blocks.size z.uniform.now z.marked.now z.mixed.now) sort n
+  select_is n = cut_kth _ n z.blocks.last (places z) (places_cover z) ∙ made_select z.blocks.last (bays z) sort n
 
   -- none at 0 and beyond their number
-  pub select_none : (n : ℕ) → (n ≡ 0) ⊎ (count_to (sorted z sort) (places z) < n) → None ≡ select_of (set_of z.last z.size z.uniform.now z.marked.now z.mixed.now) sort n
-  select_none n few = ap (cut_at z.last) (kth_by (sorted z sort) n (places z) None few) ∙ select_is n
+  pub select_none : (n : ℕ) → (n ≡ 0) ⊎ (count_to (sorted z sort) (places z) < n) → None ≡ select_of (set_of z.blocks.last z.blocks.size z.uniform.now z.marked.now z.mixed.now) sort n
+  select_none n few = ap (cut_at z.blocks.last) (kth_by (sorted z sort) n (places z) None few) ∙ select_is n

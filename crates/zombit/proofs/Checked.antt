@@ -1,5 +1,6 @@
 -- A search for what is wrong, as a check; and that the checks of O and of M ask for what is lawful.
-use Rattle.std.proofs.Common.{◌≡◌, ℕ, suc, ◌+◌, ◌-◌, ◌*◌, ◌<◌, Bool, true, false, not, ◌&&◌, List, is_some, Some, None, Ok, Err, Option, sym, refl, ap, ◌∙◌, ⊎_elim, add-one, arith}
+use Rattle.std.proofs.Common.{◌≡◌, ℕ, zero, suc, ◌+◌, ◌-◌, ◌*◌, ◌<◌, Bool, true, false, not, ◌&&◌, ◌||◌, List, is_some, Some, None, Ok, Err, Option, sym, refl, ap, ◌∙◌, ⊎_elim, add-one, arith}
+use Rattle.std.specs.List.{list_any, range_with_len}
 use Rattle.faults.specs.Checks.{CheckIs, none_found}
 use Rattle.faults.specs.Numbers.{flaw_number}
 use Rattle.faults.specs.declared.fault.Flaw.{Flaw}
@@ -13,6 +14,25 @@ use Rattle.zombit.specs.Lawful.{Place, LawfulO, LawfulM}
 use Rattle.zombit.specs.Opening.{wrong_mark, mark_check, some_in, fit_block, wrong_mix, mix_check}
 
 -- ---- what is wrong in one of n blocks
+
+-- asked of each number, and searched for
+pub any_first : (f : ℕ → Bool) (p n : ℕ) → list_any f (range_with_len p n) ≡ is_some (first_from f p n)
+unfolding first_from
+any_first f p zero = refl
+any_first f p (suc n) = ⊎_elim
+    (λ e. ap (λ b. b || list_any f (range_with_len (p + 1) n)) e ∙ sym (ap is_some (cond-true (f p) _ _ e)))
+    (λ e.
+    ap (λ b. b || list_any f (range_with_len (p + 1) n)) e ∙ ap (λ (q : ℕ). list_any f (range_with_len q n)) (add-one p) ∙ any_first f (suc p) n
+    ∙ sym (ap is_some (cond-false (f p) _ _ e)))
+    (cases_Bool (f p))
+
+pub some_wrong : (flaw : Flaw) (r : Option ℕ) → true ≡ is_some r → Err flaw ≡ none_found flaw r
+some_wrong flaw None e = absurd (both_ways _ refl (sym e))
+some_wrong flaw (Some k) e = refl
+
+pub no_wrong : (flaw : Flaw) (r : Option ℕ) → false ≡ is_some r → Ok tt ≡ none_found flaw r
+no_wrong flaw None e = refl
+no_wrong flaw (Some k) e = absurd (both_ways _ (sym e) refl)
 
 -- one block more
 pub none_more : (f : ℕ → Bool) (k : ℕ) → ((j : ℕ) → j < k → f j ≡ false) → false ≡ f k → (j : ℕ) → j < k + 1 → f j ≡ false

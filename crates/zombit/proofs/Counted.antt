@@ -1,20 +1,18 @@
 -- The places of a sort counted by the rows.
-use Rattle.std.proofs.Common.{◌≡◌, ℕ, zero, suc, ◌+◌, ◌-◌, ◌*◌, ◌<◌, ◌≤◌, Bool, true, false, not, leb, Some, None, Option, sym, ap, ◌∙◌, subst, inl, inr, ⊎_elim, mul-le-mul_right, suc-mul, add-mul, zero-mul, arith}
+use Rattle.std.proofs.Common.{◌≡◌, ℕ, zero, suc, ◌+◌, ◌-◌, ◌*◌, ◌<◌, ◌≤◌, Bool, true, false, not, leb, Some, None, Option, sym, ap, ◌∙◌, subst, inl, inr, ⊎_elim, mul-le-mul_right, suc-mul, zero-mul, arith}
 use Rattle.std.proofs.lemmas.Bool.{cases_Bool, cases_lt, cond_both, leb-true, leb-false}
 use Rattle.sets.specs.declared.Sort.{Sort}
-use Rattle.sets.specs.Made.{of_sort}
 use Rattle.sets.specs.Search.{count_to, kth_to}
-use Rattle.sets.proofs.Tests.{KthIs, kth_law, kth_by, count_none, count_here, count_on, count_mono, count_le, count_less, count_others, count_without}
-use Rattle.bits.specs.Bits.{is_bit, bit_for}
-use Rattle.bits.specs.declared.bit.Bit.{Bit}
-use Rattle.bits.proofs.Sorts.{as_sort}
+use Rattle.sets.proofs.Tests.{KthIs, kth_law, kth_by, count_none, count_here, count_on, count_mono, count_le, count_less, count_without}
+use Rattle.bits.specs.Bits.{is_bit}
 use Rattle.zombit.specs.Blocks.{mixed_before, bits_before}
 use Rattle.zombit.specs.Lawful.{Place}
 use Rattle.zombit.specs.Meant.{U, O, M, blocks, places, bays, sorted, KindIs, cut_at}
 use Rattle.zombit.specs.declared.index.Zombit.{Zombit}
 use Rattle.zombit.specs.declared.kind.Kind.TheVariants.{All, Bare}
+use Rattle.zombit.proofs.Places.{few_places}
 use Rattle.zombit.proofs.Found.{as_bit}
-use Rattle.zombit.proofs.Indexed.{places_few, block_ends, bay_uniform, bay_mixed}
+use Rattle.zombit.proofs.Indexed.{block_ends, bay_uniform, bay_mixed}
 
 -- one row follows another for n numbers
 pub count_along : (f g : ℕ → Bool) (a c n : ℕ) → ((j : ℕ) → 1 ≤ j → j ≤ n → f (a + j) ≡ g (c + j)) → count_to f (a + n) + count_to g c ≡ count_to g (c + n) + count_to f a
@@ -75,7 +73,7 @@ cut_kth f k u n l = cut (kth_to f k n) (kth_law f k n)
 
 module _ (z : Zombit) where
   abbrev β : ℕ
-  β = z.size
+  β = z.blocks.size
 
   -- each mixed block is marked
   pub mixed_marked : (k : ℕ) → k ≤ blocks z → mixed_before (U z) k ≤ count_to (O z) k
@@ -124,26 +122,12 @@ module _ (z : Zombit) where
   pub before_is : (k full bits : ℕ) → k ≤ blocks z → bits ≡ bits_before β (U z) k → full + bits ≡ count_to (O z) k * β → full + count_to (M z) bits ≡ count_to (bays z) (k * β)
   before_is k full bits h e sum = omega (arith, blocks_count k h, e, sum, ap (count_to (M z)) e)
 
-  -- the bits before block k, and the bays of the full blocks before it
-  module _ (k a b : ℕ) (h : k ≤ blocks z) (ones : a ≡ count_to (U z) k) (marks : b ≡ count_to (O z) k) where
-    mixed_is : k - a ≡ mixed_before (U z) k
-    mixed_is = omega (arith, ones, count_others (U z) k)
+  -- the bits before block k are no more than the places of the marked ones
+  pub bits_marked : (k : ℕ) → k ≤ blocks z → bits_before β (U z) k ≤ count_to (O z) k * β
+  bits_marked k h = mul-le-mul_right β (mixed_marked k h)
 
-    pub full_some : k - a ≤ b
-    full_some = omega (arith, mixed_is, marks, mixed_marked k h)
-
-    pub bits_is : (k - a) * β ≡ bits_before β (U z) k
-    bits_is = ap (λ (n : ℕ). n * β) mixed_is
-
-    pub full_is : (b - (k - a)) * β + (k - a) * β ≡ count_to (O z) k * β
-    full_is =
-        let sum : b - (k - a) + (k - a) ≡ count_to (O z) k = omega (arith, full_some, marks) in
-        sym (add-mul (b - (k - a)) (k - a) β) ∙ ap (λ (n : ℕ). n * β) sum
-
-    pub full_few : (b - (k - a)) * β + (k - a) * β ≤ 69631
-    full_few =
-        let l : count_to (O z) k ≤ blocks z = omega (arith, count_le (O z) k, h) in
-        omega (arith, full_is, mul-le-mul_right β l, places_few z, z.sized.1, z.blocked.1)
+  pub marked_few : (k : ℕ) → k ≤ blocks z → count_to (O z) k * β ≤ 69631
+  marked_few k h = few_places z.blocks (count_to (O z) k) (omega (arith, count_le (O z) k, h))
 
   -- ---- part of block k
 
@@ -172,34 +156,27 @@ module _ (z : Zombit) where
       pub nth_bare : KindIs z sort k Bare → ⊥
       nth_bare none = omega (arith, less, more, part_bare β (omega arith) none)
 
-      module _ (before earlier : ℕ) (bit : Bit) (mix : U z (suc k) ≡ false) (start : before ≡ bits_before β (U z) k) (for : bit ≡ bit_for sort)
-          (seen : earlier ≡ count_to (of_sort sort (M z)) before) where
+      module _ (before earlier : ℕ) (mix : U z (suc k) ≡ false) (start : before ≡ bits_before β (U z) k) (seen : earlier ≡ count_to (is_bit z.mixed.now sort) before) where
         abbrev bits : ℕ → Bool
-        bits = is_bit z.mixed.now bit
-
-        same_bits : ◌≡◌ {A = ℕ → Bool} (of_sort sort (M z)) bits
-        same_bits = sym (as_sort z.mixed.now sort) ∙ (λ t. is_bit z.mixed.now (sym for t))
-
-        earlier_bits : earlier ≡ count_to bits before
-        earlier_bits = seen ∙ (λ t. count_to (same_bits t) before)
+        bits = is_bit z.mixed.now sort
 
         part_bits : (j : ℕ) → j ≤ β → count_to f (k * β + j) + count_to bits before ≡ count_to bits (before + j) + count_to f (k * β)
-        part_bits j l = count_along f bits (k * β) before j (λ i a b. as_bit z sort k before bit mix start for i (a, omega arith))
+        part_bits j l = count_along f bits (k * β) before j (λ i a b. as_bit z sort k before mix start i (a, omega arith))
 
         pub nth_mixed : (q : ℕ) → Some q ≡ kth_to bits (earlier + left) (before + β) → (before ≤ q) × Place β (q - before) × (Some (k * β + (q - before)) ≡ kth_to f n (places z))
         nth_mixed q e =
             let law = kth_is bits _ _ _ e in
-            let later : before < q = ⊎_elim (λ l. l) (λ g. absurd (omega (arith, law.3, count_mono bits q before g, earlier_bits, rest, less))) (cases_lt before q) in
+            let later : before < q = ⊎_elim (λ l. l) (λ g. absurd (omega (arith, law.3, count_mono bits q before g, seen, rest, less))) (cases_lt before q) in
             let p : Place β (q - before) = (omega arith, omega (arith, law.1)) in
             let same : before + (q - before) ≡ q = omega arith in
             let part = part_bits (q - before) p.1 in
             let there = ap (count_to bits) same in
-            (omega arith, p, is_nth (q - before) p (as_bit z sort k before bit mix start for (q - before) p ∙ ap bits same ∙ law.2) (omega (arith, part, there, law.3, earlier_bits, rest)))
+            (omega arith, p, is_nth (q - before) p (as_bit z sort k before mix start (q - before) p ∙ ap bits same ∙ law.2) (omega (arith, part, there, law.3, seen, rest)))
 
         pub nth_gone : None ≡ kth_to bits (earlier + left) (before + β) → ⊥
         nth_gone e =
             let law = kth_is bits _ _ _ e in
             ⊎_elim
             (λ none. omega (arith, none, rest, less))
-            (λ few. omega (arith, few, part_bits β (omega arith), earlier_bits, rest, more))
+            (λ few. omega (arith, few, part_bits β (omega arith), seen, rest, more))
             law

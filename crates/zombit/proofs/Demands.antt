@@ -1,5 +1,5 @@
 -- What is asked of a zombit index, one check after the other.
-use Rattle.std.proofs.Common.{ℕ, List, Ok}
+use Rattle.std.proofs.Common.{◌≡◌, ℕ, List, Ok, sym, subst}
 use Rattle.faults.specs.Checks.{Check, CheckIs, Verdict, last_check, located, first_of, Needs, Accepted}
 use Rattle.faults.specs.declared.fault.Flaw.TheVariants.{Numbers, BlockSize as WrongSize}
 use Rattle.faults.specs.declared.fault.Form.TheVariants.{Zombit}
@@ -42,12 +42,20 @@ opening_law u β us os ms =
     none))))))))) in
     all.meets
 
+-- what answers as the definition does meets the demands
+pub lawful : (u β : ℕ) (us os ms : List ℕ) (r : Verdict) → r ≡ opening u β us os ms → OpeningIs u β us os ms r
+lawful u β us os ms r e = subst (OpeningIs u β us os ms) (sym e) (opening_law u β us os ms)
+
 -- what is accepted is lawful in every part
 module _ (u β : ℕ) (us os ms : List ℕ) where
+  abbrev NumbersLawful : Type 0
+  NumbersLawful = record { sized : LastBay u; blocked : BlockSize β }
+
+  pub numbers : OpeningIs u β us os ms (Ok tt) → NumbersLawful
+  numbers law = record { sized = law.0; blocked = law.1.0 }
+
   abbrev PartsLawful : Type 0
   PartsLawful = record {
-    sized : LastBay u;
-    blocked : BlockSize β;
     whole_u : Whole (blocks_of u β) us;
     whole_o : Whole (blocks_of u β) os;
     whole_m : Whole (mixed_bits u β us) ms;
@@ -68,8 +76,6 @@ module _ (u β : ℕ) (us os ms : List ℕ) where
       let marks = clear.1.1.1.0 in
       let mixes = clear.1.1.1.1.0 in
       record {
-        sized = law.0;
-        blocked = law.1.0;
         whole_u = whole.0;
         whole_o = whole.1.0;
         whole_m = whole.1.1.0;

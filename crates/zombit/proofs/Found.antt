@@ -4,9 +4,7 @@ use Rattle.sets.specs.declared.Sort.{Sort}
 use Rattle.sets.specs.Sets.{fits}
 use Rattle.sets.specs.Search.{first_from, last_to}
 use Rattle.sets.proofs.Tests.{FirstIs, LastIs, first_law, first_by, last_law, last_by}
-use Rattle.bits.specs.Bits.{is_bit, bit_for}
-use Rattle.bits.specs.declared.bit.Bit.{Bit}
-use Rattle.bits.proofs.Sorts.{as_sort}
+use Rattle.bits.specs.Bits.{is_bit}
 use Rattle.zombit.specs.Blocks.{bits_before}
 use Rattle.zombit.specs.Lawful.{Place}
 use Rattle.zombit.specs.Meant.{U, blocks, places, sorted, block_has, KindIs, first_place, FirstTo, LastAfter}
@@ -18,7 +16,7 @@ use Rattle.zombit.proofs.Skips.{first_is, last_is, first_hit, first_skip, last_h
 
 module _ (z : Zombit) (sort : Sort) where
   abbrev β : ℕ
-  β = z.size
+  β = z.blocks.size
 
   -- ---- block k
 
@@ -49,15 +47,12 @@ module _ (z : Zombit) (sort : Sort) where
         last_skip (sorted z sort) _ _ (omega arith) (λ j l g. at_place false 1 at (λ i q a b. none i q) j l (omega arith) (omega arith) g)
 
     -- its bits in M where it is mixed
-    module _ (before : ℕ) (bit : Bit) (n : U z (suc k) ≡ false) (start : before ≡ bits_before β (U z) k) (for : bit ≡ bit_for sort) where
+    module _ (before : ℕ) (n : U z (suc k) ≡ false) (start : before ≡ bits_before β (U z) k) where
       abbrev bits : ℕ → Bool
-      bits = is_bit z.mixed.now bit
+      bits = is_bit z.mixed.now sort
 
       pub as_bit : (j : ℕ) → Place β j → sorted z sort (k * β + j) ≡ bits (before + j)
-      as_bit j p =
-          ap (fits sort) (bay_mixed z k j p n)
-          ∙ (λ t. sym (as_sort z.mixed.now sort) t (sym start t + j))
-          ∙ (λ t. is_bit z.mixed.now (sym for t) (before + j))
+      as_bit j p = ap (fits sort) (bay_mixed z k j p n) ∙ ap (λ (n : ℕ). bits (n + j)) (sym start)
 
       pub first_mixed : (at q : ℕ) → k < blocks z → Place β at → Some q ≡ first_from bits (before + at) (suc (before + β) - (before + at))
           → Place β (q - before) × (before ≤ q) × FirstTo z sort (k * β + at) (k * β + β) (Some (k * β + (q - before)))

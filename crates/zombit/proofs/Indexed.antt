@@ -12,51 +12,51 @@ use Rattle.zombit.proofs.Room.{mixed_room}
 use Rattle.zombit.proofs.Places.{bay_in_block, block_in, blocks_reach, blocks_cover}
 
 module _ (z : Zombit) where
-  pub some_size : 1 ≤ z.size
-  some_size = omega (arith, z.blocked.0)
+  pub some_size : 1 ≤ z.blocks.size
+  some_size = omega (arith, z.blocks.blocked.0)
 
   pub some_block : 1 ≤ blocks z
-  some_block = block_in z.last z.size 0 some_size (omega (arith, zero-mul z.size, z.sized.0))
+  some_block = block_in z.blocks.last z.blocks.size 0 some_size (omega (arith, zero-mul z.blocks.size, z.blocks.sized.0))
 
-  pub places_cover : z.last ≤ places z
-  places_cover = blocks_cover z.last z.size some_size
+  pub places_cover : z.blocks.last ≤ places z
+  places_cover = blocks_cover z.blocks.last z.blocks.size some_size
 
-  pub places_few : places z ≤ z.last + z.size
-  places_few = blocks_reach z.last z.size some_size
+  pub places_few : places z ≤ z.blocks.last + z.blocks.size
+  places_few = blocks_reach z.blocks.last z.blocks.size some_size
 
   -- block k ends among the places
-  pub block_ends : (k : ℕ) → k < blocks z → k * z.size + z.size ≤ places z
-  block_ends k h = omega (arith, mul-le-mul_right z.size h, suc-mul k z.size)
+  pub block_ends : (k : ℕ) → k < blocks z → k * z.blocks.size + z.blocks.size ≤ places z
+  block_ends k h = omega (arith, mul-le-mul_right z.blocks.size h, suc-mul k z.blocks.size)
 
-  pub before_le : (k : ℕ) → k ≤ blocks z → bits_before z.size (U z) k ≤ places z
+  pub before_le : (k : ℕ) → k ≤ blocks z → bits_before z.blocks.size (U z) k ≤ places z
   before_le k h =
       let few = count_le (λ j. not (U z j)) k in
       let l : mixed_before (U z) k ≤ blocks z = omega arith in
-      mul-le-mul_right z.size l
+      mul-le-mul_right z.blocks.size l
 
   pub small_mixed : length z.mixed.now ≤ 16384
-  small_mixed = omega (arith, z.whole_m, before_le (blocks z) (omega arith), places_few, z.sized.1, z.blocked.1)
+  small_mixed = omega (arith, z.whole_m, before_le (blocks z) (omega arith), places_few, z.blocks.sized.1, z.blocks.blocked.1)
 
   -- the bits of the first k blocks are in M
-  pub before_within : (k : ℕ) → k ≤ blocks z → bits_before z.size (U z) k ≤ 8 * length z.mixed.now
-  before_within k h = omega (arith, mul-le-mul_right z.size (count_mono (λ j. not (U z j)) k (blocks z) h), z.whole_m)
+  pub before_within : (k : ℕ) → k ≤ blocks z → bits_before z.blocks.size (U z) k ≤ 8 * length z.mixed.now
+  before_within k h = omega (arith, mul-le-mul_right z.blocks.size (count_mono (λ j. not (U z j)) k (blocks z) h), z.whole_m)
 
   -- a mixed block has its bits in M
-  pub bits_within : (k : ℕ) → k < blocks z → U z (suc k) ≡ false → bits_before z.size (U z) k + z.size ≤ 8 * length z.mixed.now
-  bits_within k h n = omega (arith, mixed_room z.size (U z) k (blocks z) h n, z.whole_m)
+  pub bits_within : (k : ℕ) → k < blocks z → U z (suc k) ≡ false → bits_before z.blocks.size (U z) k + z.blocks.size ≤ 8 * length z.mixed.now
+  bits_within k h n = omega (arith, mixed_room z.blocks.size (U z) k (blocks z) h n, z.whole_m)
 
   -- ---- a place of block k
 
-  pub bay_uniform : (k j : ℕ) → Place z.size j → U z (suc k) ≡ true → bays z (k * z.size + j) ≡ O z (suc k)
-  bay_uniform k j p y = bay_in_block z.size k j (U z) (O z) (M z) p ∙ cond-true _ _ _ y
+  pub bay_uniform : (k j : ℕ) → Place z.blocks.size j → U z (suc k) ≡ true → bays z (k * z.blocks.size + j) ≡ O z (suc k)
+  bay_uniform k j p y = bay_in_block z.blocks.size k j (U z) (O z) (M z) p ∙ cond-true _ _ _ y
 
-  pub bay_mixed : (k j : ℕ) → Place z.size j → U z (suc k) ≡ false → bays z (k * z.size + j) ≡ M z (bits_before z.size (U z) k + j)
-  bay_mixed k j p n = bay_in_block z.size k j (U z) (O z) (M z) p ∙ cond-false _ _ _ n
+  pub bay_mixed : (k j : ℕ) → Place z.blocks.size j → U z (suc k) ≡ false → bays z (k * z.blocks.size + j) ≡ M z (bits_before z.blocks.size (U z) k + j)
+  bay_mixed k j p n = bay_in_block z.blocks.size k j (U z) (O z) (M z) p ∙ cond-false _ _ _ n
 
   -- ---- blocks and sorts
 
   -- a block without the sort has no place of it
-  pub lacks_all : (sort : Sort) (k j : ℕ) → k < blocks z → Place z.size j → block_has z sort (suc k) ≡ false → sorted z sort (k * z.size + j) ≡ false
+  pub lacks_all : (sort : Sort) (k j : ℕ) → k < blocks z → Place z.blocks.size j → block_has z sort (suc k) ≡ false → sorted z sort (k * z.blocks.size + j) ≡ false
   lacks_all Members k j h p e =
       ⊎_elim (λ y. bay_uniform k j p y ∙ e) (λ n. absurd (both_ways _ e (z.marks k (h, n)))) (cases_Bool (U z (suc k)))
   lacks_all Others k j h p e =
@@ -69,7 +69,7 @@ module _ (z : Zombit) where
       full false b e = absurd (both_ways _ e refl)
 
   -- and one with it has one
-  pub has_some : (sort : Sort) (k : ℕ) → k < blocks z → block_has z sort (suc k) ≡ true → ((j : ℕ) → Place z.size j → sorted z sort (k * z.size + j) ≡ false) → ⊥
+  pub has_some : (sort : Sort) (k : ℕ) → k < blocks z → block_has z sort (suc k) ≡ true → ((j : ℕ) → Place z.blocks.size j → sorted z sort (k * z.blocks.size + j) ≡ false) → ⊥
   has_some Members k h e none = ⊎_elim
       (λ y. both_ways _ (sym (bay_uniform k 1 (omega arith, some_size) y) ∙ none 1 (omega arith, some_size)) e)
       (λ n. z.ones k (h, n) (λ j p. sym (bay_mixed k j p n) ∙ none j p))

@@ -1,6 +1,9 @@
 -- Searches that skip numbers of which none passes, and searches for one of two tests.
 use Rattle.std.proofs.Common.{◌≡◌, ℕ, suc, ◌-◌, ◌<◌, ◌≤◌, max, Bool, true, false, not, ◌&&◌, Some, None, Option, sym, refl, ap, ◌∙◌, subst, ⊎_elim, arith}
 use Rattle.std.proofs.lemmas.Bool.{cases_lt, both_ways}
+use Rattle.std.proofs.lemmas.Grind.{common_steps}
+use Rattle.std.specs.Option.{unwrap_or, option_or, option_cmp}
+use Rattle.std.specs.Ordering.{ord_max, nat_cmp}
 use Rattle.sets.specs.Search.{first_from, last_to}
 use Rattle.sets.proofs.Tests.{FirstIs, LastIs, first_law, first_by, first_agree, last_law, last_by, last_agree}
 
@@ -57,6 +60,10 @@ full_right : (a b : Bool) → not b ≡ false → not a ≡ not (a && b)
 full_right true b x = sym x
 full_right false b x = refl
 
+-- the later of two numbers
+later : (k q : ℕ) → ord_max (option_cmp nat_cmp) (Some k) (Some q) ≡ Some (max q k)
+later k q = grind (arith, common_steps)
+
 module _ (A B : ℕ → Bool) where
   abbrev a : ℕ → Bool
   a j = not (A j)
@@ -67,10 +74,10 @@ module _ (A B : ℕ → Bool) where
   abbrev either : ℕ → Bool
   either j = not (A j && B j)
 
-  pub first_one : (p n : ℕ) → None ≡ first_from b p n → first_from a p n ≡ first_from either p n
+  first_one : (p n : ℕ) → None ≡ first_from b p n → first_from a p n ≡ first_from either p n
   first_one p n e = first_agree a either p n (λ j l h. full_right (A j) (B j) (first_is b p n None e j l h))
 
-  pub first_left : (p n q k : ℕ) → Some q ≡ first_from b p n → Some k ≡ first_from a p (suc q - p) → Some k ≡ first_from either p n
+  first_left : (p n q k : ℕ) → Some q ≡ first_from b p n → Some k ≡ first_from a p (suc q - p) → Some k ≡ first_from either p n
   first_left p n q k e g =
       let right = first_is b p n (Some q) e in
       let left = first_is a p (suc q - p) (Some k) g in
@@ -85,7 +92,7 @@ module _ (A B : ℕ → Bool) where
         λ j l h. neither (A j) (B j) (left.3 j l h) (right.3 j l (omega arith)),
       )
 
-  pub first_right : (p n q : ℕ) → Some q ≡ first_from b p n → None ≡ first_from a p (suc q - p) → Some q ≡ first_from either p n
+  first_right : (p n q : ℕ) → Some q ≡ first_from b p n → None ≡ first_from a p (suc q - p) → Some q ≡ first_from either p n
   first_right p n q e g =
       let right = first_is b p n (Some q) e in
       let left = first_is a p (suc q - p) None g in
@@ -96,10 +103,18 @@ module _ (A B : ℕ → Bool) where
         λ j l h. neither (A j) (B j) (left j l (omega arith)) (right.3 j l h),
       )
 
-  pub last_one : (n : ℕ) → None ≡ last_to b n → last_to a n ≡ last_to either n
+  -- the first of both searches, where the second goes no further than the first has found
+  pub first_either : (p n : ℕ) (r m : Option ℕ) → r ≡ first_from b p (suc n - p) → m ≡ first_from a p (suc (unwrap_or r n) - p)
+      → option_or m r ≡ first_from either p (suc n - p)
+  first_either p n None None e g = g ∙ first_one p _ e
+  first_either p n None (Some k) e g = g ∙ first_one p _ e
+  first_either p n (Some q) None e g = first_right p _ q e g
+  first_either p n (Some q) (Some k) e g = first_left p _ q k e g
+
+  last_one : (n : ℕ) → None ≡ last_to b n → last_to a n ≡ last_to either n
   last_one n e = last_agree a either n (λ j l h. full_right (A j) (B j) (last_is b n None e j l h))
 
-  pub last_right : (n q : ℕ) → Some q ≡ last_to b n → None ≡ last_to a n → Some q ≡ last_to either n
+  last_right : (n q : ℕ) → Some q ≡ last_to b n → None ≡ last_to a n → Some q ≡ last_to either n
   last_right n q e g =
       let right = last_is b n (Some q) e in
       let left = last_is a n None g in
@@ -111,7 +126,7 @@ module _ (A B : ℕ → Bool) where
         λ j l h. neither (A j) (B j) (left j (omega arith) h) (right.3 j l h),
       )
 
-  pub last_both : (n q k m : ℕ) → Some q ≡ last_to b n → Some k ≡ last_to a n → m ≡ max q k → Some m ≡ last_to either n
+  last_both : (n q k m : ℕ) → Some q ≡ last_to b n → Some k ≡ last_to a n → m ≡ max q k → Some m ≡ last_to either n
   last_both n q k m e g same =
       let right = last_is b n (Some q) e in
       let left = last_is a n (Some k) g in
@@ -128,3 +143,15 @@ module _ (A B : ℕ → Bool) where
             (cases_lt q k),
         λ j l h. neither (A j) (B j) (left.3 j (omega arith) h) (right.3 j (omega arith) h),
       )
+
+  -- the last of both searches
+  pub last_either : (n : ℕ) (r m : Option ℕ) → r ≡ last_to b n → m ≡ last_to a n → ord_max (option_cmp nat_cmp) m r ≡ last_to either n
+  last_either n None None e g = g ∙ last_one n e
+  last_either n None (Some k) e g = g ∙ last_one n e
+  last_either n (Some q) None e g = last_right n q e g
+  last_either n (Some q) (Some k) e g = later k q ∙ last_both n q k (max q k) e g refl
+
+-- where nothing was found, n is taken
+pub found_within : (f : ℕ → Bool) (p n : ℕ) (r : Option ℕ) → r ≡ first_from f p (suc n - p) → unwrap_or r n ≤ n
+found_within f p n None e = omega arith
+found_within f p n (Some q) e = let law = first_is f p _ (Some q) e in omega (arith, law.0, law.1)

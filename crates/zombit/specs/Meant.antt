@@ -23,14 +23,14 @@ M z = bit_at z.mixed.now
 
 -- how many blocks, and how many places they have
 abbrev pub blocks : Zombit → ℕ
-blocks z = blocks_of z.last z.size
+blocks z = blocks_of z.blocks.last z.blocks.size
 
 abbrev pub places : Zombit → ℕ
-places z = blocks z * z.size
+places z = blocks z * z.blocks.size
 
 -- whether a place is a member, and whether it is of the sort
 abbrev pub bays : Zombit → ℕ → Bool
-bays z = bay_in z.size (U z) (O z) (M z)
+bays z = bay_in z.blocks.size (U z) (O z) (M z)
 
 abbrev pub sorted : Zombit → Sort → ℕ → Bool
 sorted z sort = of_sort sort (bays z)
@@ -42,8 +42,8 @@ block_has z Others k = not (U z k && O z k)
 
 -- what block k is to a sort: all of it, none of it, or mixed
 abbrev pub KindIs : Zombit → Sort → ℕ → Kind → Type 0
-KindIs z sort k All = (j : ℕ) → Place z.size j → sorted z sort (k * z.size + j) ≡ true
-KindIs z sort k Bare = (j : ℕ) → Place z.size j → sorted z sort (k * z.size + j) ≡ false
+KindIs z sort k All = (j : ℕ) → Place z.blocks.size j → sorted z sort (k * z.blocks.size + j) ≡ true
+KindIs z sort k Bare = (j : ℕ) → Place z.blocks.size j → sorted z sort (k * z.blocks.size + j) ≡ false
 KindIs z sort k Mixed = U z (suc k) ≡ false
 
 -- the first place of the sort from p on

@@ -1,5 +1,5 @@
--- What opening a zombit index answers, and what stands afterwards.
-use Rattle.std.specs.Prelude.{◌≡◌, ℕ, suc, ◌+◌, ◌-◌, ◌*◌, Bool, cond, not, ◌&&◌, List, is_some, Ok, Err, nat_lt}
+-- What opening a zombit index answers.
+use Rattle.std.specs.Prelude.{ℕ, suc, ◌+◌, ◌-◌, ◌*◌, Bool, cond, not, ◌&&◌, List, is_some, Ok, nat_lt}
 use Rattle.faults.specs.Checks.{Check, Verdict, range_check, last_check, located, first_of, none_found, Needs, Accepted}
 use Rattle.faults.specs.declared.fault.Flaw as flaws
 use Rattle.faults.specs.declared.fault.Form as forms
@@ -9,7 +9,6 @@ use Rattle.bits.specs.Bits.{bit_at}
 use Rattle.bits.specs.Checks.{Whole, Clear, length_check, spare_check}
 use Rattle.zombit.specs.Blocks.{blocks_of, bits_before}
 use Rattle.zombit.specs.Lawful.{BlockSize, LawfulO, LawfulM}
-use Rattle.zombit.specs.declared.index.Zombit.{Zombit}
 
 abbrev pub size_check : ℕ → Check
 size_check β = range_check flaws.TheVariants.BlockSize 2 4096 β
@@ -71,9 +70,3 @@ OpeningIs u β us os ms =
     (Needs forms.TheVariants.Zombit 3 3 (Clear (mixed_bits u β us) ms)
     (Needs forms.TheVariants.Zombit 6 2 (LawfulO u β (bit_at us) (bit_at os))
     (Needs forms.TheVariants.Zombit 6 3 (LawfulM u β (bit_at us) (bit_at ms)) Accepted)))))))))
-
--- the new index, whole, or after a refusal the old one
-abbrev pub Opened : Verdict → Zombit → Zombit → ℕ → ℕ → List ℕ → List ℕ → List ℕ → Type 0
-Opened (Ok _) old new u β us os ms =
-    (new.last ≡ u) × (new.size ≡ β) × (new.uniform.now ≡ us) × (new.marked.now ≡ os) × (new.mixed.now ≡ ms)
-Opened (Err _) old new u β us os ms = new ≡ old

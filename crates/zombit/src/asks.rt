@@ -8,19 +8,19 @@ use super::kind::Kind;
 use sets::{Counting, Sort, Walking};
 
 impl<'a> Walking for Zombit<'a> {
-    ghost meant = { λ z. set_of z.last z.size z.uniform.now z.marked.now z.mixed.now };
+    ghost meant = { λ z. set_of z.blocks.last z.blocks.size z.uniform.now z.marked.now z.mixed.now };
 
-    ghost sized = { λ z. made_sized z.last (bays z) z.sized };
+    ghost sized = { λ z. made_sized z.blocks.last (bays z) z.blocks.sized };
 
     fn last(&self) -> u32 {
-        self.last
+        self.blocks.last
     }
 
     fn holds(&self, i: u32) -> bool {
-        if i == 0 || i > self.last {
+        if i == 0 || i > self.blocks.last {
             return false;
         }
-        let spot = self.spot(i);
+        let spot = self.blocks.spot(i);
         match self.kind(Sort::Members, spot.block) {
             Kind::All => true,
             Kind::Bare => false,
@@ -29,18 +29,18 @@ impl<'a> Walking for Zombit<'a> {
     }
 
     fn next(&self, sort: Sort, i: u32) -> Option<u32> {
-        if i > self.last {
+        if i > self.blocks.last {
             return None;
         }
         self.within(self.first_from(sort, i.max(1)))
     }
 
     fn previous(&self, sort: Sort, i: u32) -> Option<u32> {
-        let to = i.min(self.last);
+        let to = i.min(self.blocks.last);
         if to == 0 {
             return None;
         }
-        let spot = self.spot(to);
+        let spot = self.blocks.spot(to);
         match self.last_in_block(sort, spot.block, spot.at) {
             Some(bay) => Some(bay),
             None => self.last_to_block(sort, spot.block),
@@ -50,16 +50,12 @@ impl<'a> Walking for Zombit<'a> {
 
 impl<'a> Counting for Zombit<'a> {
     fn rank(&self, sort: Sort, i: u32) -> u32 {
-        let to = i.min(self.last);
-        let members = self.members_to(to);
-        match sort {
-            Sort::Members => members,
-            Sort::Others => to - members,
-        }
+        let to = i.min(self.blocks.last);
+        sort.share(self.members_to(to), to)
     }
 
     fn select(&self, sort: Sort, n: u32) -> Option<u32> {
-        if n == 0 || n > self.count_before(sort, self.blocks()) {
+        if n == 0 || n > self.count_before(sort, self.blocks.count()) {
             return None;
         }
         let k = self.block_with(sort, n);

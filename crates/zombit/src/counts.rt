@@ -4,52 +4,51 @@ ghost use Rattle.bits.specs.Bits.{bit_at};
 ghost use Rattle.sets.specs.Made.{of_sort};
 ghost use Rattle.sets.specs.Search.{count_to, kth_to};
 ghost use Rattle.zombit.specs.Blocks.{bits_before};
-ghost use Rattle.zombit.specs.Meant.{U, O, blocks as blocks_in, places, bays, sorted};
+ghost use Rattle.zombit.specs.Meant.{U, O, blocks, places, bays, sorted};
 
 use super::index::Zombit;
-use super::kind::{Before, Kind};
-use sets::Sort;
+use super::kind::Kind;
+use sets::{Sort, partition_point};
+
+// What the first blocks have: the bays of the full ones, and the bits of the mixed ones.
+#[derive(Clone, Copy)]
+struct Before {
+    full: u32,
+    bits: u32,
+}
 
 // How many of the bits 1 to `i` stand for the sort.
 fn bits_of(bytes: &[u8], sort: Sort, i: u32) -> u32
     requires within { i ≤ 8 * length bytes.now }
-    requires small { length bytes.now ≤ 16384 }
     ensures value { result ≡ count_to (of_sort sort (bit_at bytes.now)) i }
     ensures bound { result ≤ i }
 {
-    let ones = bits::ones(bytes, i);
-    match sort {
-        Sort::Members => ones,
-        Sort::Others => i - ones,
-    }
+    sort.share(bits::ones(bytes, i), i)
 }
 
 impl<'a> Zombit<'a> {
     // What the first `k` blocks have.
     fn before(&self, k: u32) -> Before
-        requires block { k ≤ blocks_in self.now }
-        ensures bits { result.bits ≡ bits_before self.now.size (U self.now) k }
-        ensures full { result.full + result.bits ≡ count_to (O self.now) k * self.now.size }
+        requires block { k ≤ blocks self.now }
+        ensures bits { result.bits ≡ bits_before self.now.blocks.size (U self.now) k }
+        ensures full { result.full + result.bits ≡ count_to (O self.now) k * self.now.blocks.size }
         ensures few { result.full + result.bits ≤ 69631 }
     {
-        let mixed = k - bits::ones(self.uniform, k);
-        let full = bits::ones(self.marked, k) - mixed;
-        Before {
-            full: full * self.size,
-            bits: mixed * self.size,
-        }
+        let bits = self.bits_before(k);
+        let full = bits::ones(self.marked, k) * self.blocks.size - bits;
+        Before { full, bits }
     }
 
     // How many members lie from bay 1 to `i`.
     pub(crate) fn members_to(&self, i: u32) -> u32
-        requires within { i ≤ self.now.last }
+        requires within { i ≤ self.now.blocks.last }
         ensures value { result ≡ count_to (bays self.now) i }
         ensures bound { result ≤ i }
     {
         if i == 0 {
             return 0;
         }
-        let spot = self.spot(i);
+        let spot = self.blocks.spot(i);
         let before = self.before(spot.block);
         match self.kind(Sort::Members, spot.block) {
             Kind::All => before.full + spot.at + bits::ones(self.mixed, before.bits),
@@ -60,61 +59,42 @@ impl<'a> Zombit<'a> {
 
     // How many places of the sort the first `k` blocks have.
     pub(crate) fn count_before(&self, sort: Sort, k: u32) -> u32
-        requires block { k ≤ blocks_in self.now }
-        ensures { result ≡ count_to (sorted self.now sort) (k * self.now.size) }
+        requires block { k ≤ blocks self.now }
+        ensures { result ≡ count_to (sorted self.now sort) (k * self.now.blocks.size) }
     {
         let before = self.before(k);
         let members = before.full + bits::ones(self.mixed, before.bits);
-        match sort {
-            Sort::Members => members,
-            Sort::Others => k * self.size - members,
-        }
+        sort.share(members, k * self.blocks.size)
     }
 
     // The block in which the `n`-th place of the sort lies.
     pub(crate) fn block_with(&self, sort: Sort, n: u32) -> u32
         requires first { 1 ≤ n }
         requires within { n ≤ count_to (sorted self.now sort) (places self.now) }
-        ensures block { result < blocks_in self.now }
-        ensures before { count_to (sorted self.now sort) (result * self.now.size) < n }
-        ensures reached { n ≤ count_to (sorted self.now sort) (result * self.now.size + self.now.size) }
+        ensures block { result < blocks self.now }
+        ensures before { count_to (sorted self.now sort) (result * self.now.blocks.size) < n }
+        ensures reached { n ≤ count_to (sorted self.now sort) (result * self.now.blocks.size + self.now.blocks.size) }
     {
-        let mut low = 0;
-        let mut high = self.blocks();
-        while high - low > 1 {
-            let middle = low + (high - low) / 2;
-            if self.count_before(sort, middle) < n {
-                low = middle;
-            } else {
-                high = middle;
-            }
-        }
-        low
+        let reached = partition_point(1, self.blocks.count(), |k| self.count_before(sort, k) < n);
+        reached - 1
     }
 
     // The `n`-th place of the sort, which lies in block `k`.
     pub(crate) fn nth_in_block(&self, sort: Sort, k: u32, n: u32) -> Option<u32>
-        requires block { k < blocks_in self.now }
-        requires before { count_to (sorted self.now sort) (k * self.now.size) < n }
-        requires reached { n ≤ count_to (sorted self.now sort) (k * self.now.size + self.now.size) }
+        requires block { k < blocks self.now }
+        requires before { count_to (sorted self.now sort) (k * self.now.blocks.size) < n }
+        requires reached { n ≤ count_to (sorted self.now sort) (k * self.now.blocks.size + self.now.blocks.size) }
         ensures { result ≡ kth_to (sorted self.now sort) n (places self.now) }
     {
         let left = n - self.count_before(sort, k);
         match self.kind(sort, k) {
-            Kind::All => Some(self.place(k, left)),
+            Kind::All => Some(self.blocks.place(k, left)),
             Kind::Bare => None,
             Kind::Mixed => {
                 let before = self.bits_before(k);
                 let earlier = bits_of(self.mixed, sort, before);
-                let Some(bit) = bits::kth(
-                    self.mixed,
-                    sort.into(),
-                    earlier + left,
-                    before + self.size,
-                ) else {
-                    return None;
-                };
-                Some(self.place(k, bit - before))
+                let bit = bits::kth(self.mixed, sort, earlier + left, before + self.blocks.size)?;
+                Some(self.blocks.place(k, bit - before))
             }
         }
     }

@@ -1,7 +1,7 @@
 // The first and the last place of a sort, in a block and over blocks.
 ghost use Rattle.std.specs.Prelude.{◌≡◌, suc, ◌+◌, ◌*◌, ◌<◌, ◌≤◌};
 ghost use Rattle.sets.specs.Search.{last_to};
-ghost use Rattle.zombit.specs.Meant.{blocks as blocks_in, sorted, cut_at, first_place, FirstTo, LastAfter};
+ghost use Rattle.zombit.specs.Meant.{blocks, sorted, cut_at, first_place, FirstTo, LastAfter};
 
 use super::index::Zombit;
 use super::kind::Kind;
@@ -10,39 +10,36 @@ use sets::Sort;
 impl<'a> Zombit<'a> {
     // A place that was found, unless it lies past the last bay.
     pub(crate) fn within(&self, found: Option<u32>) -> Option<u32>
-        ensures { result ≡ cut_at self.now.last found }
+        ensures { result ≡ cut_at self.now.blocks.last found }
     {
         match found {
-            Some(bay) if bay <= self.last => Some(bay),
+            Some(bay) if bay <= self.blocks.last => Some(bay),
             _ => None,
         }
     }
 
     // The first place of the sort from place `at` of block `k` to the end of the block.
     pub(crate) fn first_in_block(&self, sort: Sort, k: u32, at: u32) -> Option<u32>
-        requires block { k < blocks_in self.now }
+        requires block { k < blocks self.now }
         requires first { 1 ≤ at }
-        requires end { at ≤ self.now.size }
-        ensures { FirstTo self.now sort (k * self.now.size + at) (k * self.now.size + self.now.size) result }
+        requires end { at ≤ self.now.blocks.size }
+        ensures { FirstTo self.now sort (k * self.now.blocks.size + at) (k * self.now.blocks.size + self.now.blocks.size) result }
     {
         match self.kind(sort, k) {
-            Kind::All => Some(self.place(k, at)),
+            Kind::All => Some(self.blocks.place(k, at)),
             Kind::Bare => None,
             Kind::Mixed => {
                 let before = self.bits_before(k);
-                let Some(bit) = bits::next(self.mixed, sort.into(), before + at, before + self.size)
-                else {
-                    return None;
-                };
-                Some(self.place(k, bit - before))
+                let bit = bits::next(self.mixed, sort, before + at, before + self.blocks.size)?;
+                Some(self.blocks.place(k, bit - before))
             }
         }
     }
 
     // The first place of the sort in block `k` or in one after it.
     pub(crate) fn first_from_block(&self, sort: Sort, k: u32) -> Option<u32>
-        requires block { k ≤ blocks_in self.now }
-        ensures { result ≡ first_place self.now sort (suc (k * self.now.size)) }
+        requires block { k ≤ blocks self.now }
+        ensures { result ≡ first_place self.now sort (suc (k * self.now.blocks.size)) }
     {
         match self.next_block(sort, k + 1) {
             Some(bit) => self.first_in_block(sort, bit - 1, 1),
@@ -53,10 +50,10 @@ impl<'a> Zombit<'a> {
     // The first place of the sort from bay `i` on.
     pub(crate) fn first_from(&self, sort: Sort, i: u32) -> Option<u32>
         requires first { 1 ≤ i }
-        requires within { i ≤ self.now.last }
+        requires within { i ≤ self.now.blocks.last }
         ensures { result ≡ first_place self.now sort i }
     {
-        let spot = self.spot(i);
+        let spot = self.blocks.spot(i);
         match self.first_in_block(sort, spot.block, spot.at) {
             Some(bay) => Some(bay),
             None => self.first_from_block(sort, spot.block + 1),
@@ -65,34 +62,32 @@ impl<'a> Zombit<'a> {
 
     // The last place of the sort in block `k` up to place `at`.
     pub(crate) fn last_in_block(&self, sort: Sort, k: u32, at: u32) -> Option<u32>
-        requires block { k < blocks_in self.now }
+        requires block { k < blocks self.now }
         requires first { 1 ≤ at }
-        requires end { at ≤ self.now.size }
-        ensures { LastAfter self.now sort (k * self.now.size) (k * self.now.size + at) result }
+        requires end { at ≤ self.now.blocks.size }
+        ensures { LastAfter self.now sort (k * self.now.blocks.size) (k * self.now.blocks.size + at) result }
     {
         match self.kind(sort, k) {
-            Kind::All => Some(self.place(k, at)),
+            Kind::All => Some(self.blocks.place(k, at)),
             Kind::Bare => None,
             Kind::Mixed => {
                 let before = self.bits_before(k);
-                let Some(bit) = bits::previous(self.mixed, sort.into(), before + at) else {
-                    return None;
-                };
+                let bit = bits::previous(self.mixed, sort, before + at)?;
                 if bit <= before {
                     return None;
                 }
-                Some(self.place(k, bit - before))
+                Some(self.blocks.place(k, bit - before))
             }
         }
     }
 
     // The last place of the sort in the first `k` blocks.
     pub(crate) fn last_to_block(&self, sort: Sort, k: u32) -> Option<u32>
-        requires block { k ≤ blocks_in self.now }
-        ensures { result ≡ last_to (sorted self.now sort) (k * self.now.size) }
+        requires block { k ≤ blocks self.now }
+        ensures { result ≡ last_to (sorted self.now sort) (k * self.now.blocks.size) }
     {
         match self.previous_block(sort, k) {
-            Some(bit) => self.last_in_block(sort, bit - 1, self.size),
+            Some(bit) => self.last_in_block(sort, bit - 1, self.blocks.size),
             None => None,
         }
     }

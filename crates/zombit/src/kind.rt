@@ -1,4 +1,4 @@
-// What a block is to a sort of bays, where a bay lies, and what lies before a block.
+// What a block is to a sort of bays.
 
 // All of a block is of the sort, none of it is, or the block is mixed.
 #[derive(Clone, Copy)]
@@ -6,18 +6,4 @@ pub(crate) enum Kind {
     All,
     Bare,
     Mixed,
-}
-
-// Place `at`, from 1, of block `block`, from 0.
-#[derive(Clone, Copy)]
-pub(crate) struct Spot {
-    pub(crate) block: u32,
-    pub(crate) at: u32,
-}
-
-// What the first blocks have: the bays of the full ones, and the bits of the mixed ones.
-#[derive(Clone, Copy)]
-pub(crate) struct Before {
-    pub(crate) full: u32,
-    pub(crate) bits: u32,
 }

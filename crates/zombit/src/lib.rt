@@ -11,7 +11,7 @@ mod find;
 mod index;
 mod kind;
 mod open;
-mod sizes;
+mod rows;
 mod source;
 
 pub use index::Zombit;

@@ -1,14 +1,16 @@
-// Opening a zombit index from the caller's memory.
+// The built-in zombit index, and opening one from the caller's memory.
 ghost use Rattle.std.specs.Prelude.{◌≡◌, false, [], ◌∷◌};
 ghost use Rattle.zombit.specs.Blocks.{set_of};
 ghost use Rattle.zombit.specs.Decoding.{Decodes};
-ghost use Rattle.zombit.specs.Opening.{opening, OpeningIs, Opened};
+ghost use Rattle.zombit.specs.Opening.{opening, OpeningIs};
 
+use super::blocks::Blocks;
 use super::checks::{check_marks, check_mixes, check_size};
 use super::index::Zombit;
-use super::sizes::{count_blocks, count_mixed_bits};
+use super::source::ZombitSource;
 use bits::{check_length, check_spare};
 use faults::{Fault, Form, Located, check_last};
+use opening::Opens;
 
 const UNIFORM_BLOCK: [u8; 1] = [1];
 
@@ -16,62 +18,75 @@ const NO_MEMBER: [u8; 1] = [0];
 
 const NO_BAYS: [u8; 0] = [];
 
-// Checks the numbers and the three parts, in the order of the refusals.
-fn check_all(last: u32, size: u32, uniform: &[u8], marked: &[u8], mixed: &[u8]) -> Result<(), Fault>
-    ensures answer { result ≡ opening last size uniform.now marked.now mixed.now }
-    ensures law { OpeningIs last size uniform.now marked.now mixed.now result }
-{
-    check_last(last).at(Form::Zombit, 0)?;
-    check_size(size).at(Form::Zombit, 0)?;
-    let blocks = count_blocks(last, size);
-    check_length(uniform, blocks).at(Form::Zombit, 1)?;
-    check_length(marked, blocks).at(Form::Zombit, 2)?;
-    let mixed_bits = count_mixed_bits(uniform, size, blocks);
-    check_length(mixed, mixed_bits).at(Form::Zombit, 3)?;
-    check_spare(uniform, blocks).at(Form::Zombit, 1)?;
-    check_spare(marked, blocks).at(Form::Zombit, 2)?;
-    check_spare(mixed, mixed_bits).at(Form::Zombit, 3)?;
-    check_marks(last, size, uniform, marked).at(Form::Zombit, 2)?;
-    check_mixes(last, size, uniform, mixed).at(Form::Zombit, 3)
-}
-
 impl<'a> Zombit<'a> {
     /// The built-in index of one bay and no member, in blocks of two.
     pub fn empty() -> Zombit<'a>
-        ensures last { result.last ≡ 1 }
-        ensures size { result.size ≡ 2 }
+        ensures last { result.blocks.last ≡ 1 }
+        ensures size { result.blocks.size ≡ 2 }
         ensures uniform { result.uniform.now ≡ 1 ∷ [] }
         ensures marked { result.marked.now ≡ 0 ∷ [] }
         ensures mixed { result.mixed.now ≡ [] }
-        ensures means { set_of result.last result.size result.uniform.now result.marked.now result.mixed.now ≡ false ∷ [] }
+        ensures means { set_of result.blocks.last result.blocks.size result.uniform.now result.marked.now result.mixed.now ≡ false ∷ [] }
     {
         Zombit {
-            last: 1,
-            size: 2,
+            blocks: Blocks { last: 1, size: 2 },
             uniform: &UNIFORM_BLOCK,
             marked: &NO_MEMBER,
             mixed: &NO_BAYS,
         }
     }
+}
 
-    /// Puts the index of these numbers and parts in the place of this one.
-    pub fn open(
-        &mut self,
-        last: u32,
-        size: u32,
-        uniform: &'a [u8],
-        marked: &'a [u8],
-        mixed: &'a [u8],
-    ) -> Result<(), Fault>
-        ensures answer { result ≡ opening last size uniform.now marked.now mixed.now }
-        ensures law { OpeningIs last size uniform.now marked.now mixed.now result }
-        ensures means { Decodes last size uniform.now marked.now mixed.now (set_of last size uniform.now marked.now mixed.now) }
-        ensures place { Opened result self.old self.new last size uniform.now marked.now mixed.now }
-    {
-        check_all(last, size, uniform, marked, mixed)?;
-        *self = Zombit {
+// Checks the numbers and the three parts, in the order of the refusals.
+fn check_all(source: &ZombitSource) -> Result<(), Fault>
+    ensures { result ≡ opening source.now.last source.now.size source.now.uniform.now source.now.marked.now source.now.mixed.now }
+{
+    let ZombitSource {
+        last,
+        size,
+        uniform,
+        marked,
+        mixed,
+    } = *source;
+    check_last(last).at(Form::Zombit, 0)?;
+    check_size(size).at(Form::Zombit, 0)?;
+    let blocks = Blocks { last, size };
+    let count = blocks.count();
+    check_length(uniform, count).at(Form::Zombit, 1)?;
+    check_length(marked, count).at(Form::Zombit, 2)?;
+    let mixed_bits = blocks.mixed_bits(uniform, count);
+    check_length(mixed, mixed_bits).at(Form::Zombit, 3)?;
+    check_spare(uniform, count).at(Form::Zombit, 1)?;
+    check_spare(marked, count).at(Form::Zombit, 2)?;
+    check_spare(mixed, mixed_bits).at(Form::Zombit, 3)?;
+    check_marks(blocks, uniform, marked).at(Form::Zombit, 2)?;
+    check_mixes(blocks, uniform, mixed).at(Form::Zombit, 3)
+}
+
+impl<'a> Opens for Zombit<'a> {
+    type Source = ZombitSource<'a>;
+
+    ghost verdict = { λ s. opening s.last s.size s.uniform.now s.marked.now s.mixed.now };
+
+    ghost due = { λ s. OpeningIs s.last s.size s.uniform.now s.marked.now s.mixed.now };
+
+    ghost decoding = { λ s. set_of s.last s.size s.uniform.now s.marked.now s.mixed.now };
+
+    ghost decodes = { λ s. Decodes s.last s.size s.uniform.now s.marked.now s.mixed.now };
+
+    ghost holding = { λ z s. (z.blocks.last ≡ s.last) × (z.blocks.size ≡ s.size) × (z.uniform.now ≡ s.uniform.now) × (z.marked.now ≡ s.marked.now) × (z.mixed.now ≡ s.mixed.now) };
+
+    fn open(&mut self, source: ZombitSource<'a>) -> Result<(), Fault> {
+        check_all(&source)?;
+        let ZombitSource {
             last,
             size,
+            uniform,
+            marked,
+            mixed,
+        } = source;
+        *self = Zombit {
+            blocks: Blocks { last, size },
             uniform,
             marked,
             mixed,

@@ -4,7 +4,6 @@ use Rattle.bits.specs.Bits.{bit_at}
 use Rattle.sets.specs.Search.{first_from, last_to, count_to, kth_to}
 use Rattle.sets.specs.Sets.{is, next_of, previous_of, rank_of, select_of}
 use Rattle.sets.specs.Made.{set_by}
-use Rattle.plain.specs.Decoding.{set_of}
 use Rattle.list.specs.Decoding.{is_among}
 use Rattle.list.specs.Lawful.{rises}
 use Rattle.zombit.specs.Blocks.{bay_in}
@@ -15,5 +14,5 @@ use Rattle.listing.specs.Listings.{play}
 use Rattle.worked.proofs.worked_cases.Goals as goal
 
 pub returns : goal.returns
-unfolding bit_at first_from last_to count_to kth_to is next_of previous_of rank_of select_of set_of set_by is_among rises bay_in place_of in_run common larger walk next_from sheet_from play
+unfolding bit_at first_from last_to count_to kth_to is next_of previous_of rank_of select_of set_by is_among rises bay_in place_of in_run common larger walk next_from sheet_from play
 returns c = ((refl, refl), ((refl, refl), ((refl, refl), ((refl, refl), ((refl, refl), ((refl, refl), ((refl, refl), ((refl, refl), (refl, (refl, (refl, (refl, (refl, (refl, (refl, (refl, (refl, (refl, (refl, (refl, (refl, (refl, ((refl, refl), ((refl, refl), ((refl, refl), (refl, tt))))))))))))))))))))))))))

@@ -1,11 +1,13 @@
--- What the loop of `check_runs` keeps.
-use Rattle.std.proofs.Common.{◌-◌}
+-- What the loop of `check_runs` keeps: of its run, the first bay, the members before it and its length.
+use Rattle.std.proofs.Common.{◌+◌, ◌-◌}
 use Rattle.bits.specs.Bits.{bit_at}
 use Rattle.pioneer.proofs.Passing.{Passed}
 use Rattle.pioneer.proofs.checks.check_runs.Given as goal
 
-abbrev pub invariant-loop-at : goal.invariant-loop-at
-invariant-loop-at l = Passed l.last l.count (bit_at l.starts) (bit_at l.sums) l.start l.sum l.behind
+abbrev pub invariant-loop-start : goal.invariant-loop-start
+invariant-loop-start l =
+    let (start, (before, (length, _))) = l.run in
+    Passed l.last l.count (bit_at l.starts) (bit_at l.sums) start (before + length) (start + length)
 
-abbrev pub decreases-loop-at : goal.decreases-loop-at
-decreases-loop-at l = l.last - l.start
+abbrev pub decreases-loop-start : goal.decreases-loop-start
+decreases-loop-start l = l.last - l.run.0

@@ -7,5 +7,5 @@ use Rattle.zombit.proofs.checks.check_mixes.Given as goal
 
 abbrev pub invariant-loop-k : goal.invariant-loop-k
 invariant-loop-k l =
-    (l.start ≡ bits_before l.size (bit_at l.uniform) l.k)
-    × ((k : ℕ) → k < l.k → wrong_mix l.last l.size (bit_at l.uniform) (bit_at l.mixed) k ≡ false)
+    (l.start ≡ bits_before l.blocks.size (bit_at l.uniform) l.k)
+    × ((k : ℕ) → k < l.k → wrong_mix l.blocks.last l.blocks.size (bit_at l.uniform) (bit_at l.mixed) k ≡ false)

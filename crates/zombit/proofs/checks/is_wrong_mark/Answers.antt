@@ -11,7 +11,7 @@ returns-then-mark c =
     let U = bit_at c.args.uniform.now in
     let uniform = at_bit c.args.uniform.now k _ c.if-get.ensures in
     let marked = at_bit c.args.marked.now k _ c.if-mark.ensures in
-    (λ t. sym marked t && ltb c.args.last (k * c.args.size + c.args.size)) ∙ sym (cond-true (U (suc k)) _ _ uniform)
+    (λ t. sym marked t && ltb c.args.blocks.last (k * c.args.blocks.size + c.args.blocks.size)) ∙ sym (cond-true (U (suc k)) _ _ uniform)
 
 pub returns-else-get : goal.returns-else-get
 returns-else-get c =

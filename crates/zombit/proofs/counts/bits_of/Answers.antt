@@ -1,15 +1,8 @@
 -- What is left to show of `bits_of`.
-use Rattle.std.proofs.Common.{ap, arith}
-use Rattle.sets.specs.declared.Sort.{Sort}
-use Rattle.sets.specs.Made.{of_sort}
-use Rattle.sets.specs.Search.{count_to}
-use Rattle.sets.proofs.Tests.{count_others}
-use Rattle.bits.specs.Bits.{bit_at}
+use Rattle.std.proofs.Common.{ℕ, sym, ap, ◌∙◌}
+use Rattle.sets.specs.Sets.{share}
+use Rattle.sets.proofs.Sharing.{count_share}
 use Rattle.zombit.proofs.counts.bits_of.Goals as goal
 
-pub returns-in-Others : goal.returns-in-Others
-returns-in-Others c =
-    let bytes = c.args.bytes.now in
-    let i = c.args.i in
-    let sort = ap (λ (s : Sort). count_to (of_sort s (bit_at bytes)) i) c.in-Others.is in
-    record { value = omega (arith, sort, count_others (bit_at bytes) i, c.ones-ones.ensures.value); bound = omega arith }
+pub returns-clause-value : goal.returns-clause-value
+returns-clause-value c = c.share.ensures ∙ ap (λ (n : ℕ). share c.args.sort n c.args.i) c.ones.ensures.value ∙ sym (count_share _ c.args.sort c.args.i)

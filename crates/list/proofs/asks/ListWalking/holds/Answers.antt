@@ -1,13 +1,13 @@
 -- What is left to show of `ListWalking::holds`.
-use Rattle.list.proofs.Holding.{held_by_last, held_by_none}
+use Rattle.std.proofs.Common.{◌∙◌, rules}
+use Rattle.std.proofs.lemmas.Fn.{always_returns_same}
+use Rattle.std.proofs.lemmas.List.Sorted.{searched}
+use Rattle.list.proofs.Holding.{held}
+use Rattle.list.proofs.Places.{grows}
 use Rattle.list.proofs.asks.ListWalking.holds.Goals as goal
 
-pub returns-then-n-gt0 : goal.returns-then-n-gt0
-returns-then-n-gt0 c =
+pub returns : goal.returns
+returns c =
     let self = c.args.self.now in
-    held_by_last _ _ self.inside self.climbs _ c.args.i c.members_to-n.ensures.value c.if-n-gt0.true c.members_to-n.ensures.bound
-
-pub returns-else-n-gt0 : goal.returns-else-n-gt0
-returns-else-n-gt0 c =
-    let self = c.args.self.now in
-    held_by_none _ _ self.inside self.climbs _ c.args.i c.members_to-n.ensures.value c.if-n-gt0.false
+    let found = searched self.numbers.now c.args.i _ (c.binary_search_by_key.ensures.position (λ x. x) (always_returns_same _ _ _ (λ a r f k. search rules))) (grows _ self.climbs) in
+    c.is_ok.ensures.value ∙ held self.last _ self.inside c.args.i _ found

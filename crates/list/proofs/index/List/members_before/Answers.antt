@@ -1,33 +1,40 @@
 -- What is left to show of `List::members_before`.
-use Rattle.std.proofs.Common.{◌+◌, ◌-◌, ◌/◌, arith}
-use Rattle.list.proofs.Places.{cut_all, cut_above, cut_below, cut_found, cut_other, few, place_under}
+use Rattle.std.proofs.Common.{◌+◌, ◌-◌, ◌<◌, ◌≤◌, get_or, sym, inl, inr, arith, rules}
+use Rattle.list.proofs.Places.{Between, between, between_not, between_count, few, place_under}
 use Rattle.list.proofs.index.List.members_before.Goals as goal
 
-pub loop-lo-init : goal.loop-lo-init
-loop-lo-init c = cut_all _ _
+pub overflow_cast-self : goal.overflow_cast-self
+overflow_cast-self c =
+    let self = c.args.self.now in
+    omega (arith, few _ _ self.inside self.climbs, self.sized.1)
 
-pub overflow_sub-self : goal.overflow_sub-self
-overflow_sub-self c =
-    let mid = c.loop-lo.lo + (c.loop-lo.hi - c.loop-lo.lo) / 2 in
-    omega (arith, place_under _ _ c.args.self.now.inside c.args.self.now.climbs mid (omega arith))
+pub partition_point-requires-clause-callable : goal.partition_point-requires-clause-callable
+partition_point-requires-clause-callable c =
+    let self = c.args.self.now in
+    let small = few _ _ self.inside self.climbs in
+    λ p l h. let under = place_under _ _ self.inside self.climbs p h in search rules
 
-pub loop-lo-preserved-then-self-mid : goal.loop-lo-preserved-then-self-mid
-loop-lo-preserved-then-self-mid c =
-    let mid = c.loop-lo.lo + (c.loop-lo.hi - c.loop-lo.lo) / 2 in
-    cut_above _ c.args.self.now.climbs _ (λ a b l. omega arith) _ _ mid c.loop-lo.invariant (omega arith) (omega arith)
+-- where the search ends, the n-th of the others stands
+here : (c : goal.After-partition_point) → Between c.args.self.now.numbers.now (c.args.n + c.partition_point.result) c.partition_point.result
+here c =
+    let self = c.args.self.now in
+    let ns = self.numbers.now in
+    let point = c.partition_point.ensures in
+    let r = c.partition_point.result in
+    between ns self.climbs _ r point.most
+    (λ some. elim point.before [
+      | inl z ↦ absurd (omega arith)
+      | inr h ↦ let low : get_or ns (r - 1) 0 - (r - 1 + 1) < c.args.n = search rules in omega arith
+    ])
+    (λ more. elim point.here [
+      | inl z ↦ absurd (omega arith)
+      | inr h ↦ let high : c.args.n ≤ get_or ns r 0 - (r + 1) = search rules in omega (arith, place_under _ _ self.inside self.climbs r more)
+    ])
 
-pub loop-lo-preserved : goal.loop-lo-preserved
-loop-lo-preserved c =
-    let mid = c.loop-lo.lo + (c.loop-lo.hi - c.loop-lo.lo) / 2 in
-    let under = place_under _ _ c.args.self.now.inside c.args.self.now.climbs mid (omega arith) in
-    cut_below _ c.args.self.now.climbs _ (λ a b l. omega arith) _ _ mid c.loop-lo.invariant (omega arith) (omega arith) (omega (arith, under))
+pub returns-clause-value : goal.returns-clause-value
+returns-clause-value c =
+    let self = c.args.self.now in
+    sym (between_count _ _ self.inside self.climbs _ _ (here c))
 
-pub overflow_cast-result : goal.overflow_cast-result
-overflow_cast-result c = omega (arith, few _ _ c.args.self.now.inside c.args.self.now.climbs, c.args.self.now.sized.1, c.loop-lo.invariant.0, c.loop-lo.invariant.1)
-
-pub returns : goal.returns
-returns c =
-    let up = c.args.self.now.climbs in
-    let found = cut_found _ _ _ _ c.loop-lo.invariant (omega (arith, c.loop-lo-test.false)) in
-    let other = cut_other _ _ c.args.self.now.inside up c.args.n _ found in
-    record { value = other.0; other = other.1; bound = found.1 }
+pub returns-clause-other : goal.returns-clause-other
+returns-clause-other c = between_not _ _ _ (here c)

@@ -1,26 +1,22 @@
 -- What is left to show of `List::members_to`.
-use Rattle.std.proofs.Common.{◌+◌, ◌-◌, ◌/◌, sym, arith}
-use Rattle.list.proofs.Places.{cut_all, cut_above, cut_below, cut_found, cut_count, few}
+use Rattle.std.proofs.Common.{leb, leb-true, leb-false, sym, arith, rules}
+use Rattle.std.proofs.lemmas.List.Sorted.{IsPartitionPoint-from_clause, IsPartitionedBy-leb}
+use Rattle.list.proofs.Places.{sorted, cut_count, few}
 use Rattle.list.proofs.index.List.members_to.Goals as goal
 
-pub loop-lo-init : goal.loop-lo-init
-loop-lo-init c = cut_all _ _
-
-pub loop-lo-preserved-then-self-mid : goal.loop-lo-preserved-then-self-mid
-loop-lo-preserved-then-self-mid c =
-    let mid = c.loop-lo.lo + (c.loop-lo.hi - c.loop-lo.lo) / 2 in
-    cut_above _ c.args.self.now.climbs _ (λ a b l. omega arith) _ _ mid c.loop-lo.invariant (omega arith) (omega arith)
-
-pub loop-lo-preserved : goal.loop-lo-preserved
-loop-lo-preserved c =
-    let mid = c.loop-lo.lo + (c.loop-lo.hi - c.loop-lo.lo) / 2 in
-    cut_below _ c.args.self.now.climbs _ (λ a b l. omega arith) _ _ mid c.loop-lo.invariant (omega arith) (omega arith) (omega arith)
-
 pub overflow_cast-result : goal.overflow_cast-result
-overflow_cast-result c = omega (arith, few _ _ c.args.self.now.inside c.args.self.now.climbs, c.args.self.now.sized.1, c.loop-lo.invariant.0, c.loop-lo.invariant.1)
+overflow_cast-result c =
+    let self = c.args.self.now in
+    omega (arith, few _ _ self.inside self.climbs, self.sized.1, c.partition_point.ensures.bound)
 
-pub returns : goal.returns
-returns c =
-    let up = c.args.self.now.climbs in
-    let found = cut_found _ _ _ _ c.loop-lo.invariant (omega (arith, c.loop-lo-test.false)) in
-    record { value = sym (cut_count _ _ c.args.self.now.inside up _ c.args.i found); bound = found.1 }
+pub returns-clause-value : goal.returns-clause-value
+returns-clause-value c =
+    let self = c.args.self.now in
+    let i = c.args.i in
+    let parted = IsPartitionedBy-leb (λ x. x) self.numbers.now i (sorted _ self.climbs) in
+    let point = IsPartitionPoint-from_clause (λ x. leb x i) _ _ c.partition_point.ensures.partitioned parted (λ a r q k. search rules) in
+    sym (cut_count _ _ self.inside self.climbs _ i (
+      c.partition_point.ensures.bound,
+      λ j l. leb-true _ _ (point.0 j 0 (omega arith) l),
+      λ j l h. leb-false _ _ (point.1 j 0 l h),
+    ))

@@ -1,11 +1,13 @@
 -- What is left to show of `PioneerCounting::rank`.
-use Rattle.pioneer.proofs.Answered.{rank_by, rank_others_by}
+use Rattle.std.proofs.Common.{ap, ◌∙◌}
+use Rattle.sets.specs.Search.{count_to}
+use Rattle.sets.specs.Sets.{share}
+use Rattle.sets.proofs.Made.{made_share}
+use Rattle.pioneer.specs.Found.{member_of}
 use Rattle.pioneer.proofs.asks.PioneerCounting.rank.Goals as goal
 
-pub returns-in-Members : goal.returns-in-Members
-returns-in-Members c =
-    rank_by c.args.self.now c.args.sort c.args.i c.min-to.result _ c.in-Members.is c.min-to.ensures c.members-members.ensures.value
-
-pub returns-in-Others : goal.returns-in-Others
-returns-in-Others c =
-    rank_others_by c.args.self.now c.args.sort c.args.i c.min-to.result _ c.in-Others.is c.min-to.ensures c.members-members.ensures.value
+pub returns : goal.returns
+returns c =
+    let p = c.args.self.now in
+    let members = c.members.ensures.value ∙ ap (count_to (member_of p)) c.min-to.ensures in
+    c.share.ensures ∙ ap (share c.args.sort c.members.result) c.min-to.ensures ∙ made_share p.last (member_of p) c.args.sort c.args.i _ members

@@ -2,7 +2,7 @@
 use Rattle.std.proofs.Common.{◌-◌, sym, ap, ◌∙◌, subst, arith}
 use Rattle.pioneer.specs.Found.{BegunIs, starts_of, sums_of}
 use Rattle.pioneer.specs.Runs.{place_of}
-use Rattle.pioneer.proofs.Finding.{sum_there, sum_before, sums_within}
+use Rattle.pioneer.proofs.Finding.{sum_there, sum_before}
 use Rattle.pioneer.proofs.Places.{some_to, none_to, place_by, place_last, last_low, kth_found}
 use Rattle.pioneer.proofs.index.Pioneer.begun.Goals as goal
 
@@ -24,7 +24,7 @@ pub previous-requires-2 : goal.previous-requires-2
 previous-requires-2 c =
     let p = c.args.self.now in
     let at = kth_found (sums_of p) p.count _ _ c.in_ok-sum.ensures in
-    record { within = omega (arith, at.1, (sums_within p).0); small = (sums_within p).1 }
+    record { within = omega (arith, at.1, p.whole.1) }
 
 pub overflow_sub-result : goal.overflow_sub-result
 overflow_sub-result c = omega (arith, c.unwrap_or-before.ensures, last_low (sums_of c.args.self.now) _ _ c.previous-2.ensures)
@@ -39,3 +39,11 @@ returns c =
       some_to (starts_of p) c.args.i _ c.in_ok-start.ensures,
       (place_last (starts_of p) p.last c.args.i _ c.requires c.in_ok-start.ensures, before, λ t. sum t - before t),
     )
+
+pub invariant_of-result : goal.invariant_of-result
+invariant_of-result c =
+    let p = c.args.self.now in
+    let at = kth_found (sums_of p) p.count _ _ c.in_ok-sum.ensures in
+    let low = last_low (sums_of p) _ _ c.previous-2.ensures in
+    let first = last_low (starts_of p) _ _ c.in_ok-start.ensures in
+    record { few = (omega (arith, p.sized.1), omega (arith, c.unwrap_or-before.ensures, p.sized.1, p.most), omega (arith, p.sized.1, p.most)) }

@@ -38,6 +38,6 @@ invariant_of-result c = record {
   lawful = all_fit 1 0 _ _ (omega (arith, no_run, no_sum)) (λ some. absurd (omega arith)) (λ r is. absurd (omega (arith, no_run, is.0, is.1)));
 }
 
-pub returns : goal.returns
+pub returns-clause-means : goal.returns-clause-means
 unfolding set_by in_run count_to bit_at
-returns c = record { last = refl; count = refl; starts = refl; sums = refl; means = refl }
+returns-clause-means c = refl

@@ -9,12 +9,6 @@ use Rattle.pioneer.proofs.index.Pioneer.members.Goals as goal
 pub overflow_sub-i : goal.overflow_sub-i
 overflow_sub-i c = let begun = c.in-Some.ensures in (begun_low c.args.self.now c.args.i c.in-Some.run' c.requires begun.0 begun.1).0
 
-pub overflow_add-result : goal.overflow_add-result
-overflow_add-result c =
-    let p = c.args.self.now in
-    let value = members_by p c.args.i _ c.in-Some.run' c.requires c.in-Some.ensures c.min.ensures in
-    omega (arith, value, count_le (member_of p) c.args.i)
-
 pub returns-in-Some : goal.returns-in-Some
 returns-in-Some c =
     let p = c.args.self.now in

@@ -1,8 +1,8 @@
 -- What is left to show of `Round::sheet`.
-use Rattle.std.proofs.Common.{◌≡◌, sym, ap, ◌∙◌, subst, arith}
+use Rattle.std.proofs.Common.{sym, ap, ◌∙◌, subst, arith}
 use lib.Seq.{set-get_or}
-use Rattle.round.specs.Machine.{next_from}
-use Rattle.round.specs.States.{state_of, after_next}
+use Rattle.round.specs.Rounds.{free_of, class_of, SameSets}
+use Rattle.round.proofs.Rounds.{next_on}
 use Rattle.round.proofs.Sheeting.{Done, going_more, done_none, done_full}
 use Rattle.round.proofs.Taking.{done_is, done_fewest}
 use Rattle.round.proofs.state.Round.sheet.Goals as goal
@@ -10,52 +10,35 @@ use Rattle.round.proofs.state.Round.sheet.Goals.{else-loop-slot-test, then-loop-
 
 pub loop-slot-preserved : goal.loop-slot-preserved
 loop-slot-preserved g c =
-    let f = g.F.Walking.meant in
-    let k = g.C.Walking.meant in
-    let r = c.args.self.now in
-    let here = c.loop-slot.self in
     let inv = c.loop-slot.invariant in
     let got = c.next.ensures in
-    let e = sym c.in-Some.is ∙ ap (λ t. t.bay) got.step ∙ (λ i. (next_from (f (inv.0 i)) (k (inv.1 i)) here.place).bay) in
-    let s = got.state ∙ (λ i. after_next (f (inv.0 i)) (k (inv.1 i)) (state_of here)) in (
-      got.sets.0 ∙ inv.0,
-      got.sets.1 ∙ inv.1,
-      going_more (f r.free) (k r.class) (state_of r) c.args.out.now c.loop-slot.slot-index (state_of here) (state_of c.next.new.self) c.loop-slot.out c.in-Some.bay (omega arith) e s inv.2,
-    )
+    let on = next_on c.args.self.now c.loop-slot.self c.next.new.self _ inv.0 got.step got.state got.sets in
+    (on.sets, going_more _ _ _ _ _ _ _ _ _ (omega arith) (sym c.in-Some.is ∙ ap (λ t. t.bay) on.step) on.state inv.1)
 
 pub returns : goal.returns
 returns g c =
     let r = c.args.self.now in
-    let f = g.F.Walking.meant r.free in
-    let k = g.C.Walking.meant r.class in
-    let here = c.loop-slot.self in
-    let n = c.loop-slot.slot-index in
+    let memory = c.args.out.now in
     let inv = c.loop-slot.invariant in
     let at-end = c.loop-slot-test in
-    let ends : Done f k (state_of r) c.args.out.now (state_of at-end.self) at-end.out × (at-end.self.free ≡ r.free) × (at-end.self.class ≡ r.class) =
+    let ends : Done (free_of r) (class_of r) r.state memory at-end.self.state at-end.out × SameSets r at-end.self =
     elim c.loop-slot-test.branch [
-      | else-loop-slot-test w ↦ (
-        (let d = done_full f k (state_of r) c.args.out.now n (state_of here) c.loop-slot.out (omega (arith, inv.2.size)) inv.2 in
-            subst (λ x. Done f k (state_of r) c.args.out.now (state_of x) at-end.out) (sym w.self-is) (subst (Done f k (state_of r) c.args.out.now (state_of here)) (sym w.out-is) d)),
-        ap (λ x. x.free) w.self-is ∙ inv.0,
-        ap (λ x. x.class) w.self-is ∙ inv.1,
-      )
-      | then-loop-slot-test+in_default w ↦ (
-        (let got = w.next.ensures in
-            let e = sym w.in_default.is ∙ ap (λ t. t.bay) got.step ∙ (λ i. (next_from (g.F.Walking.meant (inv.0 i)) (g.C.Walking.meant (inv.1 i)) here.place).bay) in
-            let s = got.state ∙ (λ i. after_next (g.F.Walking.meant (inv.0 i)) (g.C.Walking.meant (inv.1 i)) (state_of here)) in
-            let d = done_none f k (state_of r) c.args.out.now n (state_of here) (state_of w.next.new.self) c.loop-slot.out (omega (arith, w.loop-slot-test.true)) e s inv.2 in
-            subst (λ x. Done f k (state_of r) c.args.out.now (state_of x) at-end.out) (sym w.self-is) (subst (Done f k (state_of r) c.args.out.now (state_of w.next.new.self)) (sym (w.out-is ∙ set-get_or c.loop-slot.out n 0)) d)),
-        ap (λ x. x.free) w.self-is ∙ w.next.ensures.sets.0 ∙ inv.0,
-        ap (λ x. x.class) w.self-is ∙ w.next.ensures.sets.1 ∙ inv.1,
-      )
+      | else-loop-slot-test w ↦
+          subst (λ x. Done (free_of r) (class_of r) r.state memory x.state at-end.out × SameSets r x) (sym w.self-is)
+          (subst (Done (free_of r) (class_of r) r.state memory c.loop-slot.self.state) (sym w.out-is) (done_full _ _ _ _ _ _ _ (omega (arith, inv.1.size)) inv.1), inv.0)
+      | then-loop-slot-test+in_default w ↦
+          let got = w.next.ensures in
+          let on = next_on r c.loop-slot.self w.next.new.self _ inv.0 got.step got.state got.sets in
+          let d = done_none _ _ _ _ _ _ _ _ (omega (arith, w.loop-slot-test.true)) (sym w.in_default.is ∙ ap (λ t. t.bay) on.step) on.state inv.1 in
+          subst (λ x. Done (free_of r) (class_of r) r.state memory x.state at-end.out × SameSets r x) (sym w.self-is)
+          (subst (Done (free_of r) (class_of r) r.state memory w.next.new.self.state) (sym (w.out-is ∙ set-get_or c.loop-slot.out c.loop-slot.slot-index 0)) d, on.sets)
     ] in
     let d = ends.0 in
     record {
       answer = λ i. record { bays = d.counts i; stretches = d.takes i };
       writes = d.writes;
-      first = done_is f k (state_of r) c.args.out.now (state_of at-end.self) at-end.out r.ok.0 d;
-      fewest = done_fewest f k (state_of r) c.args.out.now (state_of at-end.self) at-end.out r.ok.0 d;
+      first = done_is _ _ _ _ _ _ r.ok.0 d;
+      fewest = done_fewest _ _ _ _ _ _ r.ok.0 d;
       state = d.state;
-      sets = (ends.1, ends.2);
+      sets = ends.1;
     }

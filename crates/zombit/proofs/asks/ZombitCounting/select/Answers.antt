@@ -13,10 +13,10 @@ returns-then-n-eq0 c =
     elim c.then-n-eq0.branch [
       | then-n-eq0-via-then-n-eq0 w ↦ select_none z _ _ (inl w.if-n-eq0.true)
       | then-n-eq0-via-else-n-eq0+then-n-count_before w ↦
-          select_none z _ _ (inr (omega (arith, w.if-n-count_before.true, w.count_before.ensures, ap (λ (k : ℕ). count_to f (k * z.size)) w.blocks-else-n-eq0.ensures)))
+          select_none z _ _ (inr (omega (arith, w.if-n-count_before.true, w.count_before.ensures, ap (λ (k : ℕ). count_to f (k * z.blocks.size)) w.count.ensures)))
     ]
 
 pub returns : goal.returns
 returns c =
     let z = c.args.self.now in
-    c.within.ensures ∙ ap (cut_at z.last) c.nth_in_block.ensures ∙ select_is z _ _
+    c.within.ensures ∙ ap (cut_at z.blocks.last) c.nth_in_block.ensures ∙ select_is z _ _

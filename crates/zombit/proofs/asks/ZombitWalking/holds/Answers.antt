@@ -16,12 +16,12 @@ returns-then-i-eq0 c =
     let z = c.args.self.now in
     elim c.then-i-eq0.branch [
       | then-i-eq0-via-then-i-eq0 w ↦ sym (is_none _ _ _ w.if-i-eq0.true)
-      | then-i-eq0-via-else-i-eq0+then-i-self w ↦ sym (made_outside z.last (bays z) Members _ w.if-i-self.true)
+      | then-i-eq0-via-else-i-eq0+then-i-self w ↦ sym (made_outside z.blocks.last (bays z) Members _ w.if-i-self.true)
     ]
 
-at_spot : (z : Zombit) (i k at : ℕ) (b : Bool) → 1 ≤ i → i ≤ z.last → k * z.size + at ≡ i → b ≡ bays z (k * z.size + at)
-    → b ≡ is_member (set_of z.last z.size z.uniform.now z.marked.now z.mixed.now) i
-at_spot z i k at b low high e h = h ∙ ap (bays z) e ∙ sym (made_is z.last (bays z) Members i low high)
+at_spot : (z : Zombit) (i k at : ℕ) (b : Bool) → 1 ≤ i → i ≤ z.blocks.last → k * z.blocks.size + at ≡ i → b ≡ bays z (k * z.blocks.size + at)
+    → b ≡ is_member (set_of z.blocks.last z.blocks.size z.uniform.now z.marked.now z.mixed.now) i
+at_spot z i k at b low high e h = h ∙ ap (bays z) e ∙ sym (made_is z.blocks.last (bays z) Members i low high)
 
 pub get-requires : goal.get-requires
 get-requires c =

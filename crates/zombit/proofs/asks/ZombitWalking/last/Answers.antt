@@ -5,4 +5,4 @@ use Rattle.zombit.specs.Meant.{bays}
 use Rattle.zombit.proofs.asks.ZombitWalking.last.Goals as goal
 
 pub returns : goal.returns
-returns c = let z = c.args.self.now in sym (made_length z.last (bays z))
+returns c = let z = c.args.self.now in sym (made_length z.blocks.last (bays z))

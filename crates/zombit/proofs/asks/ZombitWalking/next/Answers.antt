@@ -10,9 +10,9 @@ use Rattle.zombit.proofs.asks.ZombitWalking.next.Goals as goal
 pub returns-then-i-self : goal.returns-then-i-self
 returns-then-i-self c =
     let z = c.args.self.now in
-    next_by _ _ _ None (λ j l. is_beyond _ _ _ (omega (arith, made_length z.last (bays z), c.if-i-self.true)))
+    next_by _ _ _ None (λ j l. is_beyond _ _ _ (omega (arith, made_length z.blocks.last (bays z), c.if-i-self.true)))
 
 pub returns : goal.returns
 returns c =
     let z = c.args.self.now in
-    c.within.ensures ∙ ap (cut_at z.last) (c.first_from.ensures ∙ ap (first_place z c.args.sort) c.max.ensures) ∙ next_is z _ _
+    c.within.ensures ∙ ap (cut_at z.blocks.last) (c.first_from.ensures ∙ ap (first_place z c.args.sort) c.max.ensures) ∙ next_is z _ _

@@ -13,5 +13,5 @@ returns-in-None c =
     let z = c.args.self.now in
     let k = c.spot-spot.result.block in
     let one : k + 1 ≡ suc k = omega arith in
-    let after : suc ((k + 1) * z.size) ≡ suc (k * z.size + z.size) = ap (λ (n : ℕ). suc (n * z.size)) one ∙ ap suc (suc-mul k z.size) in
+    let after : suc ((k + 1) * z.blocks.size) ≡ suc (k * z.blocks.size + z.blocks.size) = ap (λ (n : ℕ). suc (n * z.blocks.size)) one ∙ ap suc (suc-mul k z.blocks.size) in
     c.first_from_block.ensures ∙ ap (first_place z c.args.sort) after ∙ sym c.in-None.ensures ∙ ap (first_place z c.args.sort) c.spot-spot.ensures.bay

@@ -8,13 +8,13 @@ use Rattle.zombit.specs.declared.index.Zombit.{Zombit}
 use Rattle.zombit.proofs.Indexed.{bay_uniform}
 use Rattle.zombit.proofs.index.Zombit.kind.Goals as goal
 
-as_marked : (z : Zombit) (sort : Sort) (k : ℕ) (b : Bool) → true ≡ U z (k + 1) → b ≡ fits sort (O z (k + 1)) → (j : ℕ) → Place z.size j → sorted z sort (k * z.size + j) ≡ b
+as_marked : (z : Zombit) (sort : Sort) (k : ℕ) (b : Bool) → true ≡ U z (k + 1) → b ≡ fits sort (O z (k + 1)) → (j : ℕ) → Place z.blocks.size j → sorted z sort (k * z.blocks.size + j) ≡ b
 as_marked z sort k b y e j p =
     let s : suc k ≡ k + 1 = omega arith in
     ap (fits sort) (bay_uniform z k j p (ap (U z) s ∙ sym y) ∙ ap (O z) s) ∙ sym e
 
-pub returns-then-is_of : goal.returns-then-is_of
-returns-then-is_of c = as_marked c.args.self.now _ _ _ c.if-not-get.ensures (c.if-is_of.ensures ∙ ap (fits c.args.sort) c.get-2.ensures)
+pub returns-then-fits : goal.returns-then-fits
+returns-then-fits c = as_marked c.args.self.now _ _ _ c.if-not-get.ensures (c.if-fits.ensures ∙ ap (fits c.args.sort) c.get-else-not-get.ensures)
 
-pub returns-else-is_of : goal.returns-else-is_of
-returns-else-is_of c = as_marked c.args.self.now _ _ _ c.if-not-get.ensures (c.if-is_of.ensures ∙ ap (fits c.args.sort) c.get-2.ensures)
+pub returns-else-fits : goal.returns-else-fits
+returns-else-fits c = as_marked c.args.self.now _ _ _ c.if-not-get.ensures (c.if-fits.ensures ∙ ap (fits c.args.sort) c.get-else-not-get.ensures)

@@ -6,7 +6,7 @@ use Rattle.sets.proofs.Tests.{count_none, count_le}
 use Rattle.zombit.specs.Meant.{M, bays}
 use Rattle.zombit.specs.declared.index.Zombit.{Zombit}
 use Rattle.zombit.proofs.Counted.{before_is, count_along, part_all, part_bare}
-use Rattle.zombit.proofs.Indexed.{bay_mixed, before_within, bits_within, small_mixed}
+use Rattle.zombit.proofs.Indexed.{bay_mixed, before_within, bits_within}
 use Rattle.zombit.proofs.index.Zombit.members_to.Goals as goal
 
 -- the count, and its bound
@@ -22,19 +22,19 @@ pub ones-requires : goal.ones-requires
 ones-requires c =
     let z = c.args.self.now in
     let within = before_within z c.spot-spot.result.block (omega (arith, c.spot-spot.ensures.block)) in
-    record { within = omega (arith, within, c.before-before.ensures.bits); small = small_mixed z }
+    record { within = omega (arith, within, c.before-before.ensures.bits) }
 
 pub ones-requires-in-Bare : goal.ones-requires-in-Bare
 ones-requires-in-Bare c =
     let z = c.args.self.now in
     let within = before_within z c.spot-spot.result.block (omega (arith, c.spot-spot.ensures.block)) in
-    record { within = omega (arith, within, c.before-before.ensures.bits); small = small_mixed z }
+    record { within = omega (arith, within, c.before-before.ensures.bits) }
 
 pub ones-requires-in-Mixed : goal.ones-requires-in-Mixed
 ones-requires-in-Mixed c =
     let z = c.args.self.now in
     let within = bits_within z _ c.spot-spot.ensures.block c.in-Mixed.ensures in
-    record { within = omega (arith, within, c.before-before.ensures.bits, c.spot-spot.ensures.end); small = small_mixed z }
+    record { within = omega (arith, within, c.before-before.ensures.bits, c.spot-spot.ensures.end) }
 
 pub returns-in-All : goal.returns-in-All
 returns-in-All c =
@@ -65,7 +65,7 @@ returns-in-Mixed c =
     let bits = c.before-before.result.bits in
     let start = c.before-before.ensures.bits in
     let before = before_is z k _ _ (omega (arith, spot.block)) start c.before-before.ensures.full in
-    let part = count_along (bays z) (M z) (k * z.size) bits at
+    let part = count_along (bays z) (M z) (k * z.blocks.size) bits at
     (λ j l g. bay_mixed z k j (l, omega (arith, spot.end)) c.in-Mixed.ensures ∙ ap (λ (n : ℕ). M z (n + j)) (sym start)) in
     let r = counted z c.args.i _ _ spot.bay (omega (arith, before, part, c.ones-in-Mixed.ensures.value)) in
     record { value = r.0; bound = r.1 }
