@@ -23,7 +23,8 @@ module _ (u : ℕ) where
 
   -- ---- one number after the other
 
-  pub rises_on : (p : ℕ) (ns : List ℕ) (j : ℕ) → j < length ns → p ≤ get_or ns j 0 → get_or ns j 0 ≤ u → rises u p (drop j ns) ≡ rises u (get_or ns j 0 + 1) (drop (j + 1) ns)
+  pub rises_on : (p : ℕ) (ns : List ℕ) (j : ℕ) → j < length ns → p ≤ get_or ns j 0 → get_or ns j 0 ≤ u
+      → rises u p (drop j ns) ≡ rises u (get_or ns j 0 + 1) (drop (j + 1) ns)
   unfolding rises
   rises_on p ns j l low high =
       let n = get_or ns j 0 in
@@ -34,11 +35,12 @@ module _ (u : ℕ) where
   pub rises_not : (p : ℕ) (ns : List ℕ) (j : ℕ) → j < length ns → ((p ≤ get_or ns j 0) × (get_or ns j 0 ≤ u) → ⊥) → rises u p (drop j ns) ≡ false
   unfolding rises
   rises_not p ns j l bad =
+      let n = get_or ns j 0 in
       at_drop_more (rises u p) ns j 0 l
       ∙ ⊎_elim
-      (λ low. and_left _ _ (lt-leb p (get_or ns j 0) low))
-      (λ high. and_right _ _ (and_left _ _ (lt-leb (get_or ns j 0) u (⊎_elim (λ past. past) (λ within. absurd (bad (high, within))) (cases_lt u (get_or ns j 0))))))
-      (cases_lt (get_or ns j 0) p)
+      (λ low. and_left _ _ (lt-leb p n low))
+      (λ high. and_right _ _ (and_left _ _ (lt-leb n u (⊎_elim (λ past. past) (λ within. absurd (bad (high, within))) (cases_lt u n)))))
+      (cases_lt n p)
 
   pub rises_to_end : (p : ℕ) (ns : List ℕ) (j : ℕ) → length ns ≤ j → rises u p (drop j ns) ≡ true
   unfolding rises

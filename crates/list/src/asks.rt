@@ -36,16 +36,14 @@ impl<'a> Counting for List<'a> {
     }
 
     fn select(&self, sort: Sort, n: u32) -> Option<u32> {
-        if n == 0 || n > self.last {
-            return None;
-        }
+        let place = n.checked_sub(1)?;
         match sort {
             Sort::Members => self
                 .numbers
-                .get(n as usize - 1)
+                .get(place as usize)
                 .map(|number| *number as u32),
             Sort::Others => {
-                let bay = n + self.members_before(n);
+                let bay = n.checked_add(self.members_before(n))?;
                 (bay <= self.last).then_some(bay)
             }
         }

@@ -9,7 +9,8 @@ use Rattle.list.proofs.check.check_rising.Goals as goal
 -- the number at hand is not the next of the list
 refused : (c : goal.After-from_residual) → rises c.args.last 1 c.args.numbers.now ≡ false
 refused c =
-    sym c.loop-number.invariant ∙ rises_not c.args.last c.loop-number.least c.args.numbers.now c.loop-number.number-index c.loop-number-test.true (search rules)
+    sym c.loop-number.invariant
+    ∙ rises_not c.args.last c.loop-number.least c.args.numbers.now c.loop-number.number-index c.loop-number-test.true (search rules)
 
 pub returns-in_err-check_range : goal.returns-in_err-check_range
 returns-in_err-check_range c =

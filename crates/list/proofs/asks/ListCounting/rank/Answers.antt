@@ -10,4 +10,6 @@ pub returns : goal.returns
 returns c =
     let ns = c.args.self.now.numbers.now in
     let members = c.members_to.ensures.value ∙ ap (count_to (is_among ns)) c.min-to.ensures in
-    c.share.ensures ∙ ap (share c.args.sort c.members_to.result) c.min-to.ensures ∙ made_share c.args.self.now.last (is_among ns) c.args.sort c.args.i _ members
+    c.share.ensures
+    ∙ ap (share c.args.sort c.members_to.result) c.min-to.ensures
+    ∙ made_share c.args.self.now.last (is_among ns) c.args.sort c.args.i _ members

@@ -1,32 +1,41 @@
 -- What is left to show of `ListCounting::select`.
-use Rattle.std.proofs.Common.{◌≡◌, ◌-◌, ◌∙◌, inl, inr, arith}
+use Rattle.std.proofs.Common.{◌≡◌, ◌-◌, ◌+◌, ◌<◌, leb, sym, ap, ◌∙◌, arith}
+use Rattle.std.specs.Bool.{then_some}
 use Rattle.std.specs.List.{slice_get}
+use Rattle.std.proofs.lemmas.Bool.{lt-leb}
 use Rattle.std.proofs.lemmas.Grind.{common_steps}
 use Rattle.std.proofs.lemmas.Option.{gets}
-use Rattle.list.proofs.Places.{few}
-use Rattle.list.proofs.Selected.{select_outside, select_member, select_other}
+use Rattle.list.proofs.Selected.{select_none, select_member, select_other}
 use Rattle.list.proofs.asks.ListCounting.select.Goals as goal
-use Rattle.list.proofs.asks.ListCounting.select.Goals.{then-n-eq0-via-then-n-eq0, then-n-eq0-via-else-n-eq0+then-n-self}
 
-pub returns-then-n-eq0 : goal.returns-then-n-eq0
-returns-then-n-eq0 c =
-    elim c.then-n-eq0.branch [
-      | then-n-eq0-via-then-n-eq0 w ↦ select_outside _ _ _ _ (inl w.if-n-eq0.true)
-      | then-n-eq0-via-else-n-eq0+then-n-self w ↦ select_outside _ _ _ _ (inr w.if-n-self.true)
-    ]
+pub returns-in_err-place : goal.returns-in_err-place
+returns-in_err-place c = c.from_residual.ensures ∙ select_none _ _ c.args.sort _ (omega (arith, c.in_err-place.ensures))
 
-pub overflow_add-bay : goal.overflow_add-bay
-overflow_add-bay c =
-    let self = c.args.self.now in
-    omega (arith, c.members_before.ensures.bound, few _ _ self.inside self.climbs, c.if-n-self.false, self.sized.1)
+pub returns-in_err-bay-in-Others : goal.returns-in_err-bay-in-Others
+returns-in_err-bay-in-Others c =
+    let found = c.members_before.ensures in
+    let u = c.args.self.now.last in
+    let bay = c.args.n + c.members_before.result in
+    let past : u < bay = omega (arith, c.in_err-bay-in-Others.ensures, c.args.self.now.sized.1) in
+    let none = ap (λ b. then_some b bay) (lt-leb bay u past) in
+    rw c.in-Others.is (
+    c.from_residual-in_err-bay-in-Others.ensures
+    ∙ sym none
+    ∙ select_other _ _ _ _ (omega (arith, c.in_ok-place.ensures)) found.value found.other
+    )
 
 pub returns-in-Members : goal.returns-in-Members
 returns-in-Members c =
     let self = c.args.self.now in
     let got : c.map.result ≡ slice_get self.numbers.now (c.args.n - 1) = grind (arith, common_steps, gets) in
-    rw c.in-Members.is (got ∙ select_member _ _ self.inside self.climbs _ (omega (arith, c.if-n-eq0.false)))
+    rw c.in-Members.is (got ∙ select_member _ _ self.inside self.climbs _ (omega (arith, c.in_ok-place.ensures)))
 
-pub returns-in-Others : goal.returns-in-Others
-returns-in-Others c =
+pub returns-in_ok-bay-in-Others : goal.returns-in_ok-bay-in-Others
+returns-in_ok-bay-in-Others c =
     let found = c.members_before.ensures in
-    rw c.in-Others.is (c.then_some.ensures ∙ select_other _ _ _ _ (omega (arith, c.if-n-eq0.false)) found.value found.other)
+    let sum : c.in_ok-bay-in-Others.bay ≡ c.args.n + c.members_before.result = omega (arith, c.in_ok-bay-in-Others.ensures) in
+    rw c.in-Others.is (
+    c.then_some.ensures
+    ∙ ap (λ bay. then_some (leb bay c.args.self.now.last) bay) sum
+    ∙ select_other _ _ _ _ (omega (arith, c.in_ok-place.ensures)) found.value found.other
+    )

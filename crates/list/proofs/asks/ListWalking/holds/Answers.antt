@@ -9,5 +9,5 @@ use Rattle.list.proofs.asks.ListWalking.holds.Goals as goal
 pub returns : goal.returns
 returns c =
     let self = c.args.self.now in
-    let found = searched self.numbers.now c.args.i _ (c.binary_search_by_key.ensures.position (λ x. x) (always_returns_same _ _ _ (λ a r f k. search rules))) (grows _ self.climbs) in
-    c.is_ok.ensures.value ∙ held self.last _ self.inside c.args.i _ found
+    let position = c.binary_search_by_key.ensures.position (λ x. x) (always_returns_same _ _ _ (λ a r f k. search rules)) in
+    c.is_ok.ensures.value ∙ held self.last _ self.inside c.args.i _ (searched _ c.args.i _ position (grows _ self.climbs))
