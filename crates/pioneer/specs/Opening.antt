@@ -1,4 +1,4 @@
--- What opening a pioneer index answers, and what stands afterwards.
+-- What opening a pioneer index answers.
 use Rattle.std.specs.Prelude.{ℕ, ◌+◌, ◌-◌, ◌≤◌, Bool, cond, not, ◌&&◌, ◌||◌, List, Ok, Err, ◌==◌, nat_le, nat_lt}
 use Rattle.faults.specs.Checks.{Check, Verdict, last_check, none_found, located, first_of, Needs, Accepted}
 use Rattle.faults.specs.declared.fault.Flaw.TheVariants.{Numbers, Unlawful}

@@ -28,22 +28,21 @@ pub(crate) fn check_runs(starts: &[u8], sums: &[u8], last: u32, count: u32) -> R
         before: 0,
         length: 0,
     };
-    loop {
+    while let Some(start) = bits::next(starts, Sort::Members, run.start + 1, last) {
         let before = run.before + run.length;
-        let start = bits::next(starts, Sort::Members, run.start + 1, last);
-        let sum = bits::next(sums, Sort::Members, before + 1, count);
-        let next = match (start, sum) {
-            (Some(start), Some(sum)) => Run {
-                start,
-                before,
-                length: sum - before,
-            },
-            (None, None) => return Ok(()),
-            (Some(_), None) | (None, Some(_)) => return Err(Flaw::Unlawful),
+        let sum = bits::next(sums, Sort::Members, before + 1, count).ok_or(Flaw::Unlawful)?;
+        let next = Run {
+            start,
+            before,
+            length: sum - before,
         };
         if next.start <= run.behind() || next.behind() > last + 1 {
             return Err(Flaw::Unlawful);
         }
         run = next;
+    }
+    match bits::next(sums, Sort::Members, run.before + run.length + 1, count) {
+        Some(_) => Err(Flaw::Unlawful),
+        None => Ok(()),
     }
 }

@@ -1,5 +1,6 @@
 -- What is left to show of `check_runs`.
-use Rattle.std.proofs.Common.{◌≡◌, ◌≤◌, true, sym, refl, ◌∙◌, arith}
+use Rattle.std.proofs.Common.{◌≡◌, ◌≤◌, true, Err, sym, refl, ◌∙◌, arith}
+use Rattle.faults.specs.declared.fault.Flaw.TheVariants.{Unlawful}
 use Rattle.bits.specs.Bits.{bit_at}
 use Rattle.pioneer.proofs.Passing.{passed_none, sum_lacks, run_lacks, all_passed, more, touches, reaches, passed_more}
 use Rattle.pioneer.proofs.Checking.{is_lawful, is_unlawful}
@@ -9,57 +10,52 @@ use Rattle.pioneer.proofs.checks.check_runs.Goals.{else-count-gt0-via-then-count
 pub loop-start-init : goal.loop-start-init
 loop-start-init c = passed_none _ _ _ _
 
-pub invariant_of-run : goal.invariant_of-run
-invariant_of-run c = record { few = (omega arith, omega arith, omega arith) }
+pub returns-in_err-sum : goal.returns-in_err-sum
+returns-in_err-sum c =
+    let is : c.from_residual.result ≡ Err Unlawful = grind arith in
+    let wrong = sum_lacks c.loop-start.invariant _ c.in-Some.ensures (sym c.in_err-sum.ensures.ok_part ∙ c.next-in-Some.ensures) in
+    rw is (record { answer = is_unlawful _ _ _ _ wrong; law = (refl, wrong) })
 
 pub overflow_sub-next : goal.overflow_sub-next
 overflow_sub-next c =
-    let m = more c.loop-start.invariant (sym c.in-Some-Some.is-0 ∙ c.next-start.ensures) (sym c.in-Some-Some.is-1 ∙ c.next-sum.ensures) in omega arith
+    let m = more c.loop-start.invariant c.in-Some.ensures (sym c.in_ok-sum.ensures.ok_part ∙ c.next-in-Some.ensures) in omega arith
+
+pub invariant_of-next : goal.invariant_of-next
+invariant_of-next c =
+    let m = more c.loop-start.invariant c.in-Some.ensures (sym c.in_ok-sum.ensures.ok_part ∙ c.next-in-Some.ensures) in
+    record { few = (omega arith, omega arith, omega arith) }
+
+pub returns-then-next-behind : goal.returns-then-next-behind
+returns-then-next-behind c =
+    let t = sym c.in_ok-sum.ensures.ok_part ∙ c.next-in-Some.ensures in
+    let wrong : _ = elim c.then-next-behind.branch [
+      | then-next-behind-via-then-next-behind w ↦ touches c.loop-start.invariant c.in-Some.ensures t (omega arith)
+      | then-next-behind-via-else-next-behind+then-behind-last w ↦ reaches c.loop-start.invariant c.in-Some.ensures t (omega arith)
+    ] in
+    record { answer = is_unlawful _ _ _ _ wrong; law = (refl, wrong) }
+
+pub loop-start-smaller : goal.loop-start-smaller
+loop-start-smaller c =
+    let m = more c.loop-start.invariant c.in-Some.ensures (sym c.in_ok-sum.ensures.ok_part ∙ c.next-in-Some.ensures) in omega arith
+
+pub loop-start-preserved : goal.loop-start-preserved
+loop-start-preserved c =
+    passed_more c.loop-start.invariant c.in-Some.ensures (sym c.in_ok-sum.ensures.ok_part ∙ c.next-in-Some.ensures) (omega arith) (omega arith)
+
+pub returns-in-Some-next : goal.returns-in-Some-next
+returns-in-Some-next c =
+    let wrong = run_lacks c.loop-start.invariant c.in-Some-next.field-0 c.in_default.ensures c.in-Some-next.ensures in
+    record { answer = is_unlawful _ _ _ _ wrong; law = (refl, wrong) }
 
 -- the last bit was asked
-ended : (c : goal.In-None-None) → 1 ≤ c.args.count → bit_at c.args.sums.now c.args.count ≡ true
+ended : (c : goal.In-None) → 1 ≤ c.args.count → bit_at c.args.sums.now c.args.count ≡ true
 ended c some =
     elim c.else-count-gt0.branch [
       | else-count-gt0-via-then-count-gt0+else-not-get w ↦ sym w.get.ensures ∙ w.if-not-get.false
       | else-count-gt0-via-else-count-gt0 w ↦ absurd (omega (arith, w.if-count-gt0.false))
     ]
 
-pub returns-in-None-None : goal.returns-in-None-None
-returns-in-None-None c =
-    let lawful = all_passed c.loop-start.invariant (ended c) (sym c.in-None-None.is-0 ∙ c.next-start.ensures) (sym c.in-None-None.is-1 ∙ c.next-sum.ensures) in
+pub returns-in-None : goal.returns-in-None
+returns-in-None c =
+    let lawful = all_passed c.loop-start.invariant (ended c) c.in_default.ensures c.in-None.ensures in
     record { answer = is_lawful _ _ _ _ lawful; law = lawful }
-
-pub returns-in-Some-None : goal.returns-in-Some-None
-returns-in-Some-None c =
-    let wrong = sum_lacks c.loop-start.invariant _ (sym c.in-Some-None.is-0 ∙ c.next-start.ensures) (sym c.in-Some-None.is-1 ∙ c.next-sum.ensures) in
-    record { answer = is_unlawful _ _ _ _ wrong; law = (refl, wrong) }
-
-pub returns-in-Some-None-2 : goal.returns-in-Some-None-2
-returns-in-Some-None-2 c =
-    let wrong = run_lacks c.loop-start.invariant _ (sym c.in-Some-None.is-0 ∙ c.next-start.ensures) (sym c.in-Some-None.is-1 ∙ c.next-sum.ensures) in
-    record { answer = is_unlawful _ _ _ _ wrong; law = (refl, wrong) }
-
-pub invariant_of-next : goal.invariant_of-next
-invariant_of-next c =
-    let m = more c.loop-start.invariant (sym c.in-Some-Some.is-0 ∙ c.next-start.ensures) (sym c.in-Some-Some.is-1 ∙ c.next-sum.ensures) in
-    record { few = (omega arith, omega arith, omega arith) }
-
-pub returns-then-next-behind : goal.returns-then-next-behind
-returns-then-next-behind c =
-    let s = sym c.in-Some-Some.is-0 ∙ c.next-start.ensures in
-    let t = sym c.in-Some-Some.is-1 ∙ c.next-sum.ensures in
-    let wrong : _ = elim c.then-next-behind.branch [
-      | then-next-behind-via-then-next-behind w ↦ touches c.loop-start.invariant s t (omega arith)
-      | then-next-behind-via-else-next-behind+then-behind-last w ↦ reaches c.loop-start.invariant s t (omega arith)
-    ] in
-    record { answer = is_unlawful _ _ _ _ wrong; law = (refl, wrong) }
-
-pub loop-start-smaller : goal.loop-start-smaller
-loop-start-smaller c =
-    let m = more c.loop-start.invariant (sym c.in-Some-Some.is-0 ∙ c.next-start.ensures) (sym c.in-Some-Some.is-1 ∙ c.next-sum.ensures) in omega arith
-
-pub loop-start-preserved : goal.loop-start-preserved
-loop-start-preserved c =
-    let s = sym c.in-Some-Some.is-0 ∙ c.next-start.ensures in
-    let t = sym c.in-Some-Some.is-1 ∙ c.next-sum.ensures in
-    passed_more c.loop-start.invariant s t (omega arith) (omega arith)
