@@ -24,9 +24,7 @@ impl fmt::Display for Fault {
 
     fn fmt<W: fmt::Write>(&self, f: &mut fmt::Formatter<W>) -> fmt::Result {
         let number = self.flaw.number();
-        let form = self.form;
-        let part = self.part;
-        write!(f, "refused {number} {form} {part}")
+        write!(f, "refused {number} {} {}", self.form, self.part)
     }
 }
 

@@ -21,9 +21,7 @@ impl fmt::Display for PairFault {
     ghost output = { λ x. Some (pair_fault_text x) };
 
     fn fmt<W: fmt::Write>(&self, f: &mut fmt::Formatter<W>) -> fmt::Result {
-        let side = self.side;
-        let fault = self.fault;
-        write!(f, "{side} {fault}")
+        write!(f, "{} {}", self.side, self.fault)
     }
 }
 
