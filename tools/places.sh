@@ -15,6 +15,9 @@ point '2 the share of a sort' 'Sort::Others => (i|to|all|k \* self.size) - '
 point '3 loops' '\bwhile\b|\bfor [a-z_]+ in .*\.\.|^ +[a-z.]+ = [a-z.]+\.saturating_add\((1|size)\);|^ +[a-z]+ \+= 1;'
 point '4 equality, conversion and printing by hand' '^impl.*(Display|From|TryFrom|PartialEq|Ord|Clone|Copy|Default|Not|Error).* for |fn (number|turn|is_as_it_was)\b|derive\((Drop, )?Clone, Copy\)\]'
 point '5 the sets of a round and facts of several contracts' 'let f = F\.Walking\.meant|requires (small|size|last) \{ (length|BlockSize|LastBay)|last: u32, size: u32|^ +size: u32,$'
+echo "== 5 facts that three or more contracts ask, with how many do"
+grep -rhoE "requires ([a-z_]+ )?\{[^}]*\}" crates/*/src --include=*.rt | sed 's/requires [a-z_]* *//' | sort | uniq -c | awk '$1 >= 3'
 point '6 buffers with a length beside' '(\], usize\)|: \[u?[a-z0-9]+; [0-9]+\],|-> \[bool; [0-9]+\])'
 point '7 a switch on which step to run, and halving by hand' 'match self\.kind|while (lo < hi|high - low > 1|width > 1)'
-echo "== 8 answers: $(cat $(find crates -name Answers.antt) | grep -c '^pub .* : goal'), lines of proofs: $(cat $(find crates -path '*/proofs/*' -name '*.antt') | wc -l)"
+files() { git ls-files "crates/*/proofs/*$1"; }
+echo "== 8 answers: $(cat $(files Answers.antt) | grep -c '^pub .* : goal'), lines of proofs: $(cat $(files .antt) | wc -l)"
