@@ -1,16 +1,17 @@
 -- The places of a sort counted by the rows.
 use Rattle.std.proofs.Common.{◌≡◌, ℕ, zero, suc, ◌+◌, ◌-◌, ◌*◌, ◌<◌, ◌≤◌, Bool, true, false, not, leb, Some, None, Option, sym, ap, ◌∙◌, subst, inl, inr, ⊎_elim, mul-le-mul_right, suc-mul, zero-mul, arith}
 use Rattle.std.proofs.lemmas.Bool.{cases_Bool, cases_lt, cond_both, leb-true, leb-false}
+use Rattle.std.specs.Option.{option_map}
 use Rattle.sets.specs.declared.Sort.{Sort}
+use Rattle.sets.specs.declared.Sort.TheVariants.{Members}
 use Rattle.sets.specs.Search.{count_to, kth_to}
-use Rattle.sets.proofs.Tests.{KthIs, kth_law, kth_by, count_none, count_here, count_on, count_mono, count_le, count_less, count_without}
+use Rattle.sets.proofs.Tests.{KthIs, kth_law, kth_by, count_none, count_here, count_on, count_mono, count_less, count_without}
 use Rattle.bits.specs.Bits.{is_bit}
 use Rattle.zombit.specs.Blocks.{mixed_before, bits_before}
 use Rattle.zombit.specs.Lawful.{Place}
-use Rattle.zombit.specs.Meant.{U, O, M, blocks, places, bays, sorted, KindIs, cut_at}
+use Rattle.zombit.specs.Meant.{U, O, M, blocks, places, bays, sorted, before, KindIs, InBlock, cut_at}
 use Rattle.zombit.specs.declared.index.Zombit.{Zombit}
 use Rattle.zombit.specs.declared.kind.Kind.TheVariants.{All, Bare}
-use Rattle.zombit.proofs.Places.{few_places}
 use Rattle.zombit.proofs.Found.{as_bit}
 use Rattle.zombit.proofs.Indexed.{block_ends, bay_uniform, bay_mixed}
 
@@ -126,19 +127,16 @@ module _ (z : Zombit) where
   pub bits_marked : (k : ℕ) → k ≤ blocks z → bits_before β (U z) k ≤ count_to (O z) k * β
   bits_marked k h = mul-le-mul_right β (mixed_marked k h)
 
-  pub marked_few : (k : ℕ) → k ≤ blocks z → count_to (O z) k * β ≤ 69631
-  marked_few k h = few_places z.blocks (count_to (O z) k) (omega (arith, count_le (O z) k, h))
-
   -- ---- part of block k
 
   module _ (sort : Sort) (k : ℕ) where
     abbrev f : ℕ → Bool
     f = sorted z sort
 
-    pub part_all : (at : ℕ) → at ≤ β → KindIs z sort k All → count_to f (k * β + at) ≡ count_to f (k * β) + at
+    part_all : (at : ℕ) → at ≤ β → KindIs z sort k All → count_to f (k * β + at) ≡ count_to f (k * β) + at
     part_all at h all = count_all f (k * β) at (λ j l g. all j (l, omega arith))
 
-    pub part_bare : (at : ℕ) → at ≤ β → KindIs z sort k Bare → count_to f (k * β + at) ≡ count_to f (k * β)
+    part_bare : (at : ℕ) → at ≤ β → KindIs z sort k Bare → count_to f (k * β + at) ≡ count_to f (k * β)
     part_bare at h none = count_bare f (k * β) at (λ j l g. none j (l, omega arith))
 
     -- ---- the n-th place of the sort, in block k
@@ -150,33 +148,59 @@ module _ (z : Zombit) where
       pub left_few : left ≤ β
       left_few = omega (arith, more, rest, count_most f (k * β) β)
 
-      pub nth_all : KindIs z sort k All → Some (k * β + left) ≡ kth_to f n (places z)
+      nth_all : KindIs z sort k All → Some (k * β + left) ≡ kth_to f n (places z)
       nth_all all = let p : Place β left = (omega arith, left_few) in is_nth left p (all left p) (omega (arith, rest, part_all left left_few all))
 
-      pub nth_bare : KindIs z sort k Bare → ⊥
+      nth_bare : KindIs z sort k Bare → ⊥
       nth_bare none = omega (arith, less, more, part_bare β (omega arith) none)
 
-      module _ (before earlier : ℕ) (mix : U z (suc k) ≡ false) (start : before ≡ bits_before β (U z) k) (seen : earlier ≡ count_to (is_bit z.mixed.now sort) before) where
-        abbrev bits : ℕ → Bool
-        bits = is_bit z.mixed.now sort
+      -- its bits in M where it is mixed
+      abbrev bits : ℕ → Bool
+      bits = is_bit z.mixed.now sort
 
-        part_bits : (j : ℕ) → j ≤ β → count_to f (k * β + j) + count_to bits before ≡ count_to bits (before + j) + count_to f (k * β)
-        part_bits j l = count_along f bits (k * β) before j (λ i a b. as_bit z sort k before mix start i (a, omega arith))
+      abbrev a : ℕ
+      a = before z k
 
-        pub nth_mixed : (q : ℕ) → Some q ≡ kth_to bits (earlier + left) (before + β) → (before ≤ q) × Place β (q - before) × (Some (k * β + (q - before)) ≡ kth_to f n (places z))
-        nth_mixed q e =
-            let law = kth_is bits _ _ _ e in
-            let later : before < q = ⊎_elim (λ l. l) (λ g. absurd (omega (arith, law.3, count_mono bits q before g, seen, rest, less))) (cases_lt before q) in
-            let p : Place β (q - before) = (omega arith, omega (arith, law.1)) in
-            let same : before + (q - before) ≡ q = omega arith in
-            let part = part_bits (q - before) p.1 in
-            let there = ap (count_to bits) same in
-            (omega arith, p, is_nth (q - before) p (as_bit z sort k before mix start (q - before) p ∙ ap bits same ∙ law.2) (omega (arith, part, there, law.3, seen, rest)))
+      part_bits : U z (suc k) ≡ false → (j : ℕ) → j ≤ β → count_to f (k * β + j) + count_to bits a ≡ count_to bits (a + j) + count_to f (k * β)
+      part_bits mix j l = count_along f bits (k * β) a j (λ i b c. as_bit z sort k mix i (b, omega arith))
 
-        pub nth_gone : None ≡ kth_to bits (earlier + left) (before + β) → ⊥
-        nth_gone e =
-            let law = kth_is bits _ _ _ e in
-            ⊎_elim
-            (λ none. omega (arith, none, rest, less))
-            (λ few. omega (arith, few, part_bits β (omega arith), seen, rest, more))
-            law
+      pub nth_inside : (q : ℕ) → Some q ≡ kth_to bits (count_to bits a + left) (a + β) → (a < q) × (q ≤ a + β)
+      nth_inside q e =
+          let law = kth_is bits _ _ (Some q) e in
+          (⊎_elim (λ l. l) (λ g. absurd (omega (arith, law.3, count_mono bits q a g, rest, less))) (cases_lt a q), law.1)
+
+      nth_mixed : U z (suc k) ≡ false → (r : Option ℕ) → r ≡ kth_to bits (count_to bits a + left) (a + β) → option_map (λ q. k * β + (q - a)) r ≡ kth_to f n (places z)
+      nth_mixed mix None e =
+          let law = kth_is bits _ _ None e in
+          absurd (⊎_elim (λ none. omega (arith, none, rest, less)) (λ few. omega (arith, few, part_bits mix β (omega arith), rest, more)) law)
+      nth_mixed mix (Some q) e =
+          let law = kth_is bits _ _ (Some q) e in
+          let in' = nth_inside q e in
+          let p : Place β (q - a) = (omega (arith, in'.0), omega (arith, in'.1)) in
+          let same : a + (q - a) ≡ q = omega (arith, in'.0) in
+          let part = part_bits mix (q - a) p.1 in
+          let there = ap (count_to bits) same in
+          is_nth (q - a) p (as_bit z sort k mix (q - a) p ∙ ap bits same ∙ law.2) (omega (arith, part, there, law.3, rest))
+
+      pub nth_in : (Found : Option ℕ → Type 0) → ((b : Option ℕ) → Found b → b ≡ kth_to bits (count_to bits a + left) (a + β))
+          → (r : Option ℕ) → InBlock z sort k left Found r → r ≡ kth_to f n (places z)
+      nth_in Found seen r (inl all) = all.1 ∙ nth_all all.0
+      nth_in Found seen r (inr (inl none)) = absurd (nth_bare none.0)
+      nth_in Found seen r (inr (inr mixed)) = mixed.3 ∙ nth_mixed mixed.0 mixed.1 (seen mixed.1 mixed.2)
+
+  -- ---- the members up to place at of block k
+
+  module _ (k at full bits : ℕ) (h : k < blocks z) (end : at ≤ β) (start : bits ≡ before z k) (sum : full + bits ≡ count_to (O z) k * β) where
+    seen : full + count_to (M z) bits ≡ count_to (bays z) (k * β)
+    seen = before_is k full bits (omega (arith, h)) start sum
+
+    pub members_all : KindIs z Members k All → full + at + count_to (M z) bits ≡ count_to (bays z) (k * β + at)
+    members_all all = omega (arith, seen, part_all Members k at end all)
+
+    pub members_bare : KindIs z Members k Bare → full + count_to (M z) bits ≡ count_to (bays z) (k * β + at)
+    members_bare none = omega (arith, seen, part_bare Members k at end none)
+
+    pub members_mixed : U z (suc k) ≡ false → full + count_to (M z) (bits + at) ≡ count_to (bays z) (k * β + at)
+    members_mixed mixed =
+        let along = count_along (bays z) (M z) (k * β) bits at (λ j l g. bay_mixed z k j (l, omega arith) mixed ∙ ap (λ (n : ℕ). M z (n + j)) (sym start)) in
+        omega (arith, seen, along)

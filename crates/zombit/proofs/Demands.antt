@@ -48,12 +48,6 @@ lawful u β us os ms r e = subst (OpeningIs u β us os ms) (sym e) (opening_law 
 
 -- what is accepted is lawful in every part
 module _ (u β : ℕ) (us os ms : List ℕ) where
-  abbrev NumbersLawful : Type 0
-  NumbersLawful = record { sized : LastBay u; blocked : BlockSize β }
-
-  pub numbers : OpeningIs u β us os ms (Ok tt) → NumbersLawful
-  numbers law = record { sized = law.0; blocked = law.1.0 }
-
   abbrev PartsLawful : Type 0
   PartsLawful = record {
     whole_u : Whole (blocks_of u β) us;

@@ -1,13 +1,15 @@
 -- What is found in a block, and what is not.
-use Rattle.std.proofs.Common.{◌≡◌, ℕ, suc, ◌+◌, ◌-◌, ◌*◌, ◌/◌, ◌%◌, ◌<◌, ◌≤◌, Bool, true, false, Some, None, Option, sym, ap, ◌∙◌, mul-le-mul_right, mod-lt, suc-mul, div-lt_iff_lt-mul, le-div_iff_mul-le, zero-mul, arith}
+use Rattle.std.proofs.Common.{◌≡◌, ℕ, suc, ◌+◌, ◌-◌, ◌*◌, ◌/◌, ◌%◌, ◌<◌, ◌≤◌, Bool, true, false, Some, None, Option, nat_lt, sym, refl, ap, ◌∙◌, subst, inl, inr, mul-le-mul_right, mod-lt, suc-mul, div-lt_iff_lt-mul, le-div_iff_mul-le, zero-mul, arith}
+use Rattle.std.specs.Option.{option_map}
+use Rattle.std.proofs.lemmas.Bool.{cond_both, ltb-true, ltb-false}
+use Rattle.std.proofs.lemmas.Map.Entries.{option_filter}
 use Rattle.sets.specs.declared.Sort.{Sort}
 use Rattle.sets.specs.Sets.{fits}
 use Rattle.sets.specs.Search.{first_from, last_to}
 use Rattle.sets.proofs.Tests.{FirstIs, LastIs, first_law, first_by, last_law, last_by}
 use Rattle.bits.specs.Bits.{is_bit}
-use Rattle.zombit.specs.Blocks.{bits_before}
 use Rattle.zombit.specs.Lawful.{Place}
-use Rattle.zombit.specs.Meant.{U, blocks, places, sorted, block_has, KindIs, first_place, FirstTo, LastAfter}
+use Rattle.zombit.specs.Meant.{U, blocks, places, sorted, block_has, before, KindIs, InBlock, first_place, FirstTo, LastAfter}
 use Rattle.zombit.specs.declared.index.Zombit.{Zombit}
 use Rattle.zombit.specs.declared.kind.Kind.TheVariants.{All, Bare}
 use Rattle.zombit.proofs.Indexed.{some_size, block_ends, bay_mixed, lacks_all, has_some}
@@ -47,63 +49,79 @@ module _ (z : Zombit) (sort : Sort) where
         last_skip (sorted z sort) _ _ (omega arith) (λ j l g. at_place false 1 at (λ i q a b. none i q) j l (omega arith) (omega arith) g)
 
     -- its bits in M where it is mixed
-    module _ (before : ℕ) (n : U z (suc k) ≡ false) (start : before ≡ bits_before β (U z) k) where
-      abbrev bits : ℕ → Bool
-      bits = is_bit z.mixed.now sort
+    abbrev bits : ℕ → Bool
+    bits = is_bit z.mixed.now sort
 
-      pub as_bit : (j : ℕ) → Place β j → sorted z sort (k * β + j) ≡ bits (before + j)
-      as_bit j p = ap (fits sort) (bay_mixed z k j p n) ∙ ap (λ (n : ℕ). bits (n + j)) (sym start)
+    abbrev a : ℕ
+    a = before z k
 
-      pub first_mixed : (at q : ℕ) → k < blocks z → Place β at → Some q ≡ first_from bits (before + at) (suc (before + β) - (before + at))
-          → Place β (q - before) × (before ≤ q) × FirstTo z sort (k * β + at) (k * β + β) (Some (k * β + (q - before)))
-      first_mixed at q h p e =
-          let law = first_is bits _ _ _ e in
-          let low = p.0 in
-          let high = p.1 in
-          let from = law.0 in
-          let to = law.1 in
-          let same : before + (q - before) ≡ q = omega arith in
-          let here : Place β (q - before) = (omega arith, omega arith) in (
-            here,
-            omega arith,
-            first_hit (sorted z sort) _ (places z) _ (omega arith) (omega (arith, block_ends z k h, here.1)) (as_bit (q - before) here ∙ ap bits same ∙ law.2)
-                (λ j l g. at_place false at (q - before - 1) (λ i a b c. as_bit i a ∙ law.3 (before + i) (omega arith) (omega arith)) j (omega arith) (omega (arith, here.1)) l (omega arith)),
-          )
+    pub as_bit : U z (suc k) ≡ false → (j : ℕ) → Place β j → sorted z sort (k * β + j) ≡ bits (a + j)
+    as_bit n j p = ap (fits sort) (bay_mixed z k j p n)
 
-      pub first_gone : (at : ℕ) → Place β at → None ≡ first_from bits (before + at) (suc (before + β) - (before + at)) → FirstTo z sort (k * β + at) (k * β + β) None
-      first_gone at p e =
-          let law = first_is bits _ _ _ e in
-          let low = p.0 in
-          let high = p.1 in
-          first_skip (sorted z sort) _ _ (places z) (omega arith)
-          (λ j l g. at_place false at β (λ i a b c. as_bit i a ∙ law (before + i) (omega arith) (omega arith)) j (omega arith) (omega arith) l g)
+    -- ---- the first place of the block from place at on, and the last up to it
 
-      pub last_mixed : (at q : ℕ) → Place β at → before < q → Some q ≡ last_to bits (before + at) → Place β (q - before) × LastAfter z sort (k * β) (k * β + at) (Some (k * β + (q - before)))
-      last_mixed at q p more e =
-          let law = last_is bits _ _ e in
-          let low = p.0 in
-          let high = p.1 in
-          let to = law.1 in
-          let same : before + (q - before) ≡ q = omega arith in
-          let here : Place β (q - before) = (omega arith, omega arith) in (
-            here,
-            last_hit (sorted z sort) _ _ (omega arith) (omega arith) (as_bit (q - before) here ∙ ap bits same ∙ law.2)
-                (λ j l g. at_place false (suc (q - before)) at (λ i a b c. as_bit i a ∙ law.3 (before + i) (omega arith) (omega arith)) j (omega arith) (omega arith) (omega arith) g),
-          )
+    module _ (at : ℕ) (p : Place β at) where
+      low : 1 ≤ at
+      low = p.0
 
-      -- what is found before the block is not in it
-      last_gone : (at : ℕ) (r : Option ℕ) → Place β at → ((j : ℕ) → before < j → j ≤ before + at → bits j ≡ false) → LastAfter z sort (k * β) (k * β + at) None
-      last_gone at r p none =
-          let low = p.0 in
-          let high = p.1 in
+      high : at ≤ β
+      high = p.1
+
+      pub first_inside : (q : ℕ) → Some q ≡ first_from bits (a + at) (suc (a + β) - (a + at)) → (a < q) × (q ≤ a + β)
+      first_inside q e = let law = first_is bits _ _ (Some q) e in (omega (arith, law.0, low), omega (arith, law.1, high))
+
+      first_mixed : k < blocks z → U z (suc k) ≡ false → (r : Option ℕ) → r ≡ first_from bits (a + at) (suc (a + β) - (a + at))
+          → FirstTo z sort (k * β + at) (k * β + β) (option_map (λ q. k * β + (q - a)) r)
+      first_mixed h n None e =
+          let law = first_is bits _ _ None e in
+          first_skip (sorted z sort) _ _ (places z) (omega (arith, high))
+          (λ j l g. at_place false at β (λ i b c d. as_bit n i b ∙ law (a + i) (omega arith) (omega arith)) j (omega (arith, low)) (omega arith) l g)
+      first_mixed h n (Some q) e =
+          let law = first_is bits _ _ (Some q) e in
+          let in' = first_inside q e in
+          let same : a + (q - a) ≡ q = omega (arith, in'.0) in
+          let here : Place β (q - a) = (omega (arith, in'.0), omega (arith, in'.1)) in
+          first_hit (sorted z sort) _ (places z) _ (omega (arith, law.0)) (omega (arith, block_ends z k h, here.1)) (as_bit n (q - a) here ∙ ap bits same ∙ law.2)
+          (λ j l g. at_place false at (q - a - 1) (λ i b c d. as_bit n i b ∙ law.3 (a + i) (omega arith) (omega (arith, in'.0, b.0))) j (omega (arith, low)) (omega (arith, here.1)) l (omega arith))
+
+      -- what was found of the sort in the block, where it was looked for among the bits of M
+      pub first_in : k < blocks z → (Found : Option ℕ → Type 0) → ((b : Option ℕ) → Found b → b ≡ first_from bits (a + at) (suc (a + β) - (a + at)))
+          → (r : Option ℕ) → InBlock z sort k at Found r → FirstTo z sort (k * β + at) (k * β + β) r
+      first_in h Found seen r (inl all) = subst (FirstTo z sort (k * β + at) (k * β + β)) (sym all.1) (first_all at h p all.0)
+      first_in h Found seen r (inr (inl none)) = subst (FirstTo z sort (k * β + at) (k * β + β)) (sym none.1) (first_bare at p none.0)
+      first_in h Found seen r (inr (inr mixed)) =
+          subst (FirstTo z sort (k * β + at) (k * β + β)) (sym mixed.3) (first_mixed h mixed.0 mixed.1 (seen mixed.1 mixed.2))
+
+      pub last_inside : (q : ℕ) → a < q → Some q ≡ last_to bits (a + at) → (a < q) × (q ≤ a + β)
+      last_inside q more e = let law = last_is bits _ (Some q) e in (more, omega (arith, law.1, high))
+
+      -- none of the bits behind the first a
+      last_gone : U z (suc k) ≡ false → ((j : ℕ) → a < j → j ≤ a + at → bits j ≡ false) → LastAfter z sort (k * β) (k * β + at) None
+      last_gone n none =
           last_skip (sorted z sort) _ _ (omega arith)
-          (λ j l g. at_place false 1 at (λ i a b c. as_bit i a ∙ none (before + i) (omega arith) (omega arith)) j l (omega arith) (omega arith) g)
+          (λ j l g. at_place false 1 at (λ i b c d. as_bit n i b ∙ none (a + i) (omega (arith, b.0)) (omega arith)) j l (omega (arith, high)) (omega arith) g)
 
-      pub last_earlier : (at q : ℕ) → Place β at → q ≤ before → Some q ≡ last_to bits (before + at) → LastAfter z sort (k * β) (k * β + at) None
-      last_earlier at q p less e = let law = last_is bits _ _ e in last_gone at (Some q) p (λ j l g. law.3 j (omega arith) g)
+      last_mixed : U z (suc k) ≡ false → (r : Option ℕ) → r ≡ last_to bits (a + at)
+          → LastAfter z sort (k * β) (k * β + at) (option_map (λ q. k * β + (q - a)) (option_filter (λ q. nat_lt a q) r))
+      last_mixed n None e = let law = last_is bits _ None e in last_gone n (λ j l g. law j (omega arith) g)
+      last_mixed n (Some q) e =
+          let law = last_is bits _ (Some q) e in
+          cond_both (nat_lt a q) (Some q) None (λ t. LastAfter z sort (k * β) (k * β + at) (option_map (λ q. k * β + (q - a)) t))
+          (λ more.
+          let in' = last_inside q (ltb-true a q more) e in
+          let same : a + (q - a) ≡ q = omega (arith, in'.0) in
+          let here : Place β (q - a) = (omega (arith, in'.0), omega (arith, in'.1)) in
+          last_hit (sorted z sort) _ _ (omega (arith, here.0)) (omega (arith, law.1)) (as_bit n (q - a) here ∙ ap bits same ∙ law.2)
+          (λ j l g. at_place false (suc (q - a)) at (λ i b c d. as_bit n i b ∙ law.3 (a + i) (omega arith) (omega arith)) j (omega (arith, here.0)) (omega (arith, high)) (omega arith) g))
+          (λ less. let before = ltb-false a q less in last_gone n (λ j l g. law.3 j (omega arith) g))
 
-      pub last_none : (at : ℕ) → Place β at → None ≡ last_to bits (before + at) → LastAfter z sort (k * β) (k * β + at) None
-      last_none at p e = let law = last_is bits _ _ e in last_gone at None p (λ j l g. law j (omega arith) g)
+      pub last_in : (Found : Option ℕ → Type 0) → ((b : Option ℕ) → Found b → b ≡ option_filter (λ q. nat_lt a q) (last_to bits (a + at)))
+          → (r : Option ℕ) → InBlock z sort k at Found r → LastAfter z sort (k * β) (k * β + at) r
+      last_in Found seen r (inl all) = subst (LastAfter z sort (k * β) (k * β + at)) (sym all.1) (last_all at p all.0)
+      last_in Found seen r (inr (inl none)) = subst (LastAfter z sort (k * β) (k * β + at)) (sym none.1) (last_bare at p none.0)
+      last_in Found seen r (inr (inr mixed)) =
+          subst (LastAfter z sort (k * β) (k * β + at)) (sym (mixed.3 ∙ ap (option_map (λ q. k * β + (q - a))) (seen mixed.1 mixed.2)))
+          (last_mixed mixed.0 _ refl)
 
   -- ---- blocks in a row
 

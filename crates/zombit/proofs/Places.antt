@@ -1,11 +1,9 @@
 -- Where a bay lies in its block, and how far the blocks reach.
-use Rattle.std.proofs.Common.{◌≡◌, ℕ, min, zero, suc, ◌+◌, ◌-◌, ◌*◌, ◌/◌, ◌%◌, ◌<◌, ◌≤◌, Bool, ap, ◌∙◌, ⊎_elim, mul-le-mul_right, suc-mul, mul_comm, le-div_iff_mul-le, zero-mul, arith}
-use Rattle.std.proofs.lemmas.Grind.{div_ceil_times}
+use Rattle.std.proofs.Common.{◌≡◌, ℕ, zero, suc, ◌+◌, ◌-◌, ◌*◌, ◌/◌, ◌%◌, ◌<◌, ◌≤◌, Bool, ap, ◌∙◌, ⊎_elim, mul-le-mul_right, suc-mul, mul_comm, le-div_iff_mul-le, zero-mul, arith}
 use native.Mathlib.Nat.{div-add-mod, div-eq_of_lt-le}
 use Rattle.std.proofs.lemmas.Bool.{cases_lt}
 use Rattle.zombit.specs.Blocks.{blocks_of, in_block, bay_in}
 use Rattle.zombit.specs.Lawful.{Place}
-use Rattle.zombit.specs.declared.blocks.Blocks.{Blocks}
 
 pub place : (β p : ℕ) → p / β * β + p % β ≡ p
 place β p = let e = div-add-mod p β in let m = mul_comm β (p / β) in omega arith
@@ -66,24 +64,6 @@ blocks_reach u β b = ⊎_elim
     (λ g. let e : blocks_of u β ≡ 0 = omega arith in let f = ap (λ (x : ℕ). x * β) e in let m = zero-mul β in omega arith)
     (cases_lt 0 (blocks_of u β))
 
--- the blocks are so many, rounded up
-pub rounded_up : (u β : ℕ) → 1 ≤ β → u / β + min 1 (u % β) ≡ blocks_of u β
-rounded_up u β b =
-    let bounds = div_ceil_times u β b in
-    let n = u / β + min 1 (u % β) in
-    let low = (le-div_iff_mul-le {k = β} {x = n} {y = u + (β - 1)} b).1 (omega (arith, bounds.1)) in
-    let reach = blocks_reach u β b in
-    ⊎_elim
-    (λ l.
-    let h = block_of u β n b l in
-    omega (arith, h, bounds.0))
-    (λ g. omega (arith, g, low))
-    (cases_lt n (blocks_of u β))
-
 pub blocks_cover : (u β : ℕ) → 1 ≤ β → u ≤ blocks_of u β * β
 blocks_cover u β b =
     ⊎_elim (λ l. absurd (let h = block_in u β (blocks_of u β) b l in omega arith)) (λ g. g) (cases_lt (blocks_of u β * β) u)
-
--- so many of the blocks have few places
-pub few_places : (b : Blocks) (k : ℕ) → k ≤ blocks_of b.last b.size → k * b.size ≤ 69631
-few_places b k h = omega (arith, mul-le-mul_right b.size h, blocks_reach b.last b.size (omega (arith, b.blocked.0)), b.sized.1, b.blocked.1)

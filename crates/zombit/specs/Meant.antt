@@ -1,12 +1,13 @@
 -- What an opened index says of its places, those of a short last block that lie past the last bay with them.
-use Rattle.std.specs.Prelude.{◌≡◌, ℕ, suc, ◌+◌, ◌-◌, ◌*◌, Bool, true, false, not, ◌&&◌, Some, None, Option}
+use Rattle.std.specs.Prelude.{◌≡◌, ℕ, suc, ◌+◌, ◌-◌, ◌*◌, Bool, true, false, not, ◌&&◌, ◌⊎◌, Some, None, Option}
+use Rattle.std.specs.Option.{option_map}
 use Rattle.sets.specs.declared.Sort.{Sort}
 use Rattle.sets.specs.declared.Sort.TheVariants.{Members, Others}
 use Rattle.sets.specs.Made.{of_sort}
 use Rattle.sets.specs.Search.{first_from, last_to}
 use Rattle.bits.specs.Bits.{bit_at}
 use Rattle.bits.specs.Words.{at_most}
-use Rattle.zombit.specs.Blocks.{blocks_of, bay_in}
+use Rattle.zombit.specs.Blocks.{blocks_of, bits_before, bay_in}
 use Rattle.zombit.specs.Lawful.{Place}
 use Rattle.zombit.specs.declared.index.Zombit.{Zombit}
 use Rattle.zombit.specs.declared.kind.Kind.{Kind}
@@ -45,6 +46,17 @@ abbrev pub KindIs : Zombit → Sort → ℕ → Kind → Type 0
 KindIs z sort k All = (j : ℕ) → Place z.blocks.size j → sorted z sort (k * z.blocks.size + j) ≡ true
 KindIs z sort k Bare = (j : ℕ) → Place z.blocks.size j → sorted z sort (k * z.blocks.size + j) ≡ false
 KindIs z sort k Mixed = U z (suc k) ≡ false
+
+-- how many bits of M lie before those of block k
+abbrev pub before : Zombit → ℕ → ℕ
+before z k = bits_before z.blocks.size (U z) k
+
+-- a place in block k: place at where all of the block is of the sort, none where none of it is, and where it is mixed that of what was found of M
+abbrev pub InBlock : Zombit → Sort → ℕ → ℕ → (Option ℕ → Type 0) → Option ℕ → Type 0
+InBlock z sort k at Found r =
+    (KindIs z sort k All × (r ≡ Some (k * z.blocks.size + at)))
+    ⊎ ((KindIs z sort k Bare × (r ≡ None))
+    ⊎ ((U z (suc k) ≡ false) × (bit : Option ℕ) × Found bit × (r ≡ option_map (λ q. k * z.blocks.size + (q - before z k)) bit)))
 
 -- the first place of the sort from p on
 abbrev pub first_place : Zombit → Sort → ℕ → Option ℕ

@@ -3,6 +3,7 @@ ghost use Rattle.sets.specs.Made.{made_sized};
 ghost use Rattle.zombit.specs.Blocks.{set_of};
 ghost use Rattle.zombit.specs.Meant.{bays};
 
+use super::blocks::Spot;
 use super::index::Zombit;
 use super::kind::Kind;
 use sets::{Counting, Sort, Walking};
@@ -20,11 +21,11 @@ impl<'a> Walking for Zombit<'a> {
         if i == 0 || i > self.blocks.last {
             return false;
         }
-        let spot = self.blocks.spot(i);
-        match self.kind(Sort::Members, spot.block) {
+        let Spot { block, at } = self.blocks.spot(i);
+        match self.kind(Sort::Members, block) {
             Kind::All => true,
             Kind::Bare => false,
-            Kind::Mixed => bits::get(self.mixed, self.bits_before(spot.block) + spot.at),
+            Kind::Mixed => bits::get(self.mixed, self.bits_before(block) + at),
         }
     }
 
@@ -40,10 +41,11 @@ impl<'a> Walking for Zombit<'a> {
         if to == 0 {
             return None;
         }
-        let spot = self.blocks.spot(to);
-        match self.last_in_block(sort, spot.block, spot.at) {
+        let Spot { block, at } = self.blocks.spot(to);
+        // A match, since `or_else` tells the proof nothing of a closure over the whole index.
+        match self.last_in_block(sort, block, at) {
             Some(bay) => Some(bay),
-            None => self.last_to_block(sort, spot.block),
+            None => self.last_to_block(sort, block),
         }
     }
 }

@@ -3,9 +3,9 @@ ghost use Rattle.std.specs.Prelude.{◌≡◌, ◌+◌, ◌*◌, ◌<◌, ◌≤
 ghost use Rattle.bits.specs.Bits.{bit_at};
 ghost use Rattle.sets.specs.Made.{of_sort};
 ghost use Rattle.sets.specs.Search.{count_to, kth_to};
-ghost use Rattle.zombit.specs.Blocks.{bits_before};
-ghost use Rattle.zombit.specs.Meant.{U, O, blocks, places, bays, sorted};
+ghost use Rattle.zombit.specs.Meant.{O, before, blocks, places, bays, sorted};
 
+use super::blocks::Spot;
 use super::index::Zombit;
 use super::kind::Kind;
 use sets::{Sort, partition_point};
@@ -30,7 +30,7 @@ impl<'a> Zombit<'a> {
     // What the first `k` blocks have.
     fn before(&self, k: u32) -> Before
         requires block { k ≤ blocks self.now }
-        ensures bits { result.bits ≡ bits_before self.now.blocks.size (U self.now) k }
+        ensures bits { result.bits ≡ before self.now k }
         ensures full { result.full + result.bits ≡ count_to (O self.now) k * self.now.blocks.size }
         ensures few { result.full + result.bits ≤ 69631 }
     {
@@ -42,18 +42,17 @@ impl<'a> Zombit<'a> {
     // How many members lie from bay 1 to `i`.
     pub(crate) fn members_to(&self, i: u32) -> u32
         requires within { i ≤ self.now.blocks.last }
-        ensures value { result ≡ count_to (bays self.now) i }
-        ensures bound { result ≤ i }
+        ensures { result ≡ count_to (bays self.now) i }
     {
         if i == 0 {
             return 0;
         }
-        let spot = self.blocks.spot(i);
-        let before = self.before(spot.block);
-        match self.kind(Sort::Members, spot.block) {
-            Kind::All => before.full + spot.at + bits::ones(self.mixed, before.bits),
-            Kind::Bare => before.full + bits::ones(self.mixed, before.bits),
-            Kind::Mixed => before.full + bits::ones(self.mixed, before.bits + spot.at),
+        let Spot { block, at } = self.blocks.spot(i);
+        let Before { full, bits } = self.before(block);
+        match self.kind(Sort::Members, block) {
+            Kind::All => full + at + bits::ones(self.mixed, bits),
+            Kind::Bare => full + bits::ones(self.mixed, bits),
+            Kind::Mixed => full + bits::ones(self.mixed, bits + at),
         }
     }
 
@@ -62,8 +61,8 @@ impl<'a> Zombit<'a> {
         requires block { k ≤ blocks self.now }
         ensures { result ≡ count_to (sorted self.now sort) (k * self.now.blocks.size) }
     {
-        let before = self.before(k);
-        let members = before.full + bits::ones(self.mixed, before.bits);
+        let Before { full, bits } = self.before(k);
+        let members = full + bits::ones(self.mixed, bits);
         sort.share(members, k * self.blocks.size)
     }
 
@@ -87,15 +86,10 @@ impl<'a> Zombit<'a> {
         ensures { result ≡ kth_to (sorted self.now sort) n (places self.now) }
     {
         let left = n - self.count_before(sort, k);
-        match self.kind(sort, k) {
-            Kind::All => Some(self.blocks.place(k, left)),
-            Kind::Bare => None,
-            Kind::Mixed => {
-                let before = self.bits_before(k);
-                let earlier = bits_of(self.mixed, sort, before);
-                let bit = bits::kth(self.mixed, sort, earlier + left, before + self.blocks.size)?;
-                Some(self.blocks.place(k, bit - before))
-            }
-        }
+        let size = self.blocks.size;
+        self.place_in_block(sort, k, left, |before| {
+            let earlier = bits_of(self.mixed, sort, before);
+            bits::kth(self.mixed, sort, earlier + left, before + size)
+        })
     }
 }

@@ -3,8 +3,8 @@ ghost use Rattle.std.specs.Prelude.{◌≡◌, suc, ◌+◌, ◌*◌, ◌<◌, �
 ghost use Rattle.sets.specs.Search.{last_to};
 ghost use Rattle.zombit.specs.Meant.{blocks, sorted, cut_at, first_place, FirstTo, LastAfter};
 
+use super::blocks::Spot;
 use super::index::Zombit;
-use super::kind::Kind;
 use sets::Sort;
 
 impl<'a> Zombit<'a> {
@@ -12,10 +12,8 @@ impl<'a> Zombit<'a> {
     pub(crate) fn within(&self, found: Option<u32>) -> Option<u32>
         ensures { result ≡ cut_at self.now.blocks.last found }
     {
-        match found {
-            Some(bay) if bay <= self.blocks.last => Some(bay),
-            _ => None,
-        }
+        let last = self.blocks.last;
+        found.filter(|bay| *bay <= last)
     }
 
     // The first place of the sort from place `at` of block `k` to the end of the block.
@@ -25,15 +23,10 @@ impl<'a> Zombit<'a> {
         requires end { at ≤ self.now.blocks.size }
         ensures { FirstTo self.now sort (k * self.now.blocks.size + at) (k * self.now.blocks.size + self.now.blocks.size) result }
     {
-        match self.kind(sort, k) {
-            Kind::All => Some(self.blocks.place(k, at)),
-            Kind::Bare => None,
-            Kind::Mixed => {
-                let before = self.bits_before(k);
-                let bit = bits::next(self.mixed, sort, before + at, before + self.blocks.size)?;
-                Some(self.blocks.place(k, bit - before))
-            }
-        }
+        let size = self.blocks.size;
+        self.place_in_block(sort, k, at, |before| {
+            bits::next(self.mixed, sort, before + at, before + size)
+        })
     }
 
     // The first place of the sort in block `k` or in one after it.
@@ -41,10 +34,8 @@ impl<'a> Zombit<'a> {
         requires block { k ≤ blocks self.now }
         ensures { result ≡ first_place self.now sort (suc (k * self.now.blocks.size)) }
     {
-        match self.next_block(sort, k + 1) {
-            Some(bit) => self.first_in_block(sort, bit - 1, 1),
-            None => None,
-        }
+        let bit = self.next_block(sort, k + 1)?;
+        self.first_in_block(sort, bit - 1, 1)
     }
 
     // The first place of the sort from bay `i` on.
@@ -53,10 +44,11 @@ impl<'a> Zombit<'a> {
         requires within { i ≤ self.now.blocks.last }
         ensures { result ≡ first_place self.now sort i }
     {
-        let spot = self.blocks.spot(i);
-        match self.first_in_block(sort, spot.block, spot.at) {
+        let Spot { block, at } = self.blocks.spot(i);
+        // A match, since `or_else` tells the proof nothing of a closure over the whole index.
+        match self.first_in_block(sort, block, at) {
             Some(bay) => Some(bay),
-            None => self.first_from_block(sort, spot.block + 1),
+            None => self.first_from_block(sort, block + 1),
         }
     }
 
@@ -67,18 +59,9 @@ impl<'a> Zombit<'a> {
         requires end { at ≤ self.now.blocks.size }
         ensures { LastAfter self.now sort (k * self.now.blocks.size) (k * self.now.blocks.size + at) result }
     {
-        match self.kind(sort, k) {
-            Kind::All => Some(self.blocks.place(k, at)),
-            Kind::Bare => None,
-            Kind::Mixed => {
-                let before = self.bits_before(k);
-                let bit = bits::previous(self.mixed, sort, before + at)?;
-                if bit <= before {
-                    return None;
-                }
-                Some(self.blocks.place(k, bit - before))
-            }
-        }
+        self.place_in_block(sort, k, at, |before| {
+            bits::previous(self.mixed, sort, before + at).filter(|bit| *bit > before)
+        })
     }
 
     // The last place of the sort in the first `k` blocks.
@@ -86,9 +69,7 @@ impl<'a> Zombit<'a> {
         requires block { k ≤ blocks self.now }
         ensures { result ≡ last_to (sorted self.now sort) (k * self.now.blocks.size) }
     {
-        match self.previous_block(sort, k) {
-            Some(bit) => self.last_in_block(sort, bit - 1, self.blocks.size),
-            None => None,
-        }
+        let bit = self.previous_block(sort, k)?;
+        self.last_in_block(sort, bit - 1, self.blocks.size)
     }
 }

@@ -8,6 +8,7 @@ mod blocks;
 mod checks;
 mod counts;
 mod find;
+mod in_block;
 mod index;
 mod kind;
 mod open;

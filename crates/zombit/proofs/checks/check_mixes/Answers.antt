@@ -5,7 +5,6 @@ use Rattle.bits.specs.Bits.{bit_at}
 use Rattle.zombit.specs.Blocks.{blocks_of, bits_before}
 use Rattle.zombit.specs.Opening.{wrong_mix}
 use Rattle.zombit.specs.declared.blocks.Blocks.{Blocks}
-use Rattle.zombit.proofs.Places.{block_of}
 use Rattle.zombit.proofs.Room.{mixed_few, bits_on, bits_here, mixed_room}
 use Rattle.zombit.proofs.Checked.{none_wrong, one_wrong, none_more, at_bit, mix_here, mix_on}
 use Rattle.zombit.proofs.checks.check_mixes.Goals as goal
@@ -15,11 +14,7 @@ pub loop-k-init : goal.loop-k-init
 loop-k-init c =
     (sym (ap (λ (n : ℕ). n * c.args.blocks.size) (count_none (λ j. not (bit_at c.args.uniform.now j))) ∙ zero-mul c.args.blocks.size), λ k l. absurd (omega arith))
 
--- block k begins at a bay
-begins : (b : Blocks) (k : ℕ) → k < blocks_of b.last b.size → k * b.size < b.last
-begins b k h = block_of b.last b.size k (omega (arith, b.blocked.0)) h
-
--- and has its bits among those of all blocks
+-- a mixed block has its bits among those of all blocks
 room : (b : Blocks) (us : List ℕ) (k : ℕ) → k < blocks_of b.last b.size → false ≡ bit_at us (k + 1)
     → (bits_before b.size (bit_at us) k + b.size ≤ bits_before b.size (bit_at us) (blocks_of b.last b.size))
     × (bits_before b.size (bit_at us) (blocks_of b.last b.size) ≤ 69631)
@@ -28,21 +23,11 @@ room b us k h e = (
   omega (arith, mixed_few b.size (bit_at us) b.last (omega (arith, b.blocked.0)), b.sized.1, b.blocked.1),
 )
 
-pub overflow_mul-k : goal.overflow_mul-k
-overflow_mul-k c = omega (arith, begins c.args.blocks c.loop-k.k (omega arith), c.args.blocks.sized.1)
-
-pub overflow_sub-blocks : goal.overflow_sub-blocks
-overflow_sub-blocks c = omega (arith, begins c.args.blocks c.loop-k.k (omega arith))
-
 pub is_mixed_block-requires : goal.is_mixed_block-requires
 is_mixed_block-requires c =
     let most = c.args.blocks.sized.1 in
     let room = room c.args.blocks c.args.uniform.now c.loop-k.k (omega arith) c.if-not-get.ensures in
-    record {
-      within = omega (arith, room.0, c.loop-k.invariant.0, c.requires.mixed);
-      small = omega (arith, room.1, c.requires.mixed);
-      bays = omega arith;
-    }
+    record { within = omega (arith, room.0, c.loop-k.invariant.0, c.requires.mixed); small = omega (arith, room.1, c.requires.mixed); bays = omega arith }
 
 pub returns-then-not-is_mixed_block : goal.returns-then-not-is_mixed_block
 returns-then-not-is_mixed_block c =

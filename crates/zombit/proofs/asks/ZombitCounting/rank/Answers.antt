@@ -9,5 +9,5 @@ use Rattle.zombit.proofs.asks.ZombitCounting.rank.Goals as goal
 pub returns : goal.returns
 returns c =
     let z = c.args.self.now in
-    let members = c.members_to.ensures.value ∙ ap (count_to (bays z)) c.min-to.ensures in
+    let members = c.members_to.ensures ∙ ap (count_to (bays z)) c.min-to.ensures in
     c.share.ensures ∙ ap (share c.args.sort c.members_to.result) c.min-to.ensures ∙ made_share z.blocks.last (bays z) c.args.sort c.args.i _ members

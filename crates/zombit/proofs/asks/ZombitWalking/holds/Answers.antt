@@ -26,25 +26,25 @@ at_spot z i k at b low high e h = h ∙ ap (bays z) e ∙ sym (made_is z.blocks.
 pub get-requires : goal.get-requires
 get-requires c =
     let z = c.args.self.now in
-    let within = bits_within z _ c.spot-spot.ensures.block c.in-Mixed.ensures in
+    let within = bits_within z _ c.spot-block.ensures.block c.in-Mixed.ensures in
     record {
-      first = omega (arith, c.spot-spot.ensures.first);
-      within = omega (arith, within, c.bits_before.ensures.value, c.spot-spot.ensures.end);
+      first = omega (arith, c.spot-block.ensures.first);
+      within = omega (arith, within, c.bits_before.ensures.value, c.spot-block.ensures.end);
     }
 
 pub returns-in-All : goal.returns-in-All
 returns-in-All c =
-    let s = c.spot-spot.ensures in
+    let s = c.spot-block.ensures in
     at_spot c.args.self.now _ _ _ _ (omega arith) (omega arith) s.bay (sym (c.in-All.ensures _ (s.first, s.end)))
 
 pub returns-in-Bare : goal.returns-in-Bare
 returns-in-Bare c =
-    let s = c.spot-spot.ensures in
+    let s = c.spot-block.ensures in
     at_spot c.args.self.now _ _ _ _ (omega arith) (omega arith) s.bay (sym (c.in-Bare.ensures _ (s.first, s.end)))
 
 pub returns-in-Mixed : goal.returns-in-Mixed
 returns-in-Mixed c =
     let z = c.args.self.now in
-    let s = c.spot-spot.ensures in
+    let s = c.spot-block.ensures in
     at_spot z _ _ _ _ (omega arith) (omega arith) s.bay
-    (c.get.ensures ∙ ap (λ (n : ℕ). M z (n + c.spot-spot.result.at)) c.bits_before.ensures.value ∙ sym (bay_mixed z _ _ (s.first, s.end) c.in-Mixed.ensures))
+    (c.get.ensures ∙ ap (λ (n : ℕ). M z (n + c.spot-block.result.at)) c.bits_before.ensures.value ∙ sym (bay_mixed z _ _ (s.first, s.end) c.in-Mixed.ensures))

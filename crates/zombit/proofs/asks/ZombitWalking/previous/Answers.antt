@@ -21,8 +21,8 @@ pub returns-then-to-eq0 : goal.returns-then-to-eq0
 returns-then-to-eq0 c = let z = c.args.self.now in to_last z _ _ _ _ c.min-to.ensures (none_yet z _ _ c.if-to-eq0.true)
 
 pub returns-in-Some : goal.returns-in-Some
-returns-in-Some c = to_last c.args.self.now _ _ _ _ (c.spot-spot.ensures.bay ∙ c.min-to.ensures) c.in-Some.ensures
+returns-in-Some c = to_last c.args.self.now _ _ _ _ (c.spot-block.ensures.bay ∙ c.min-to.ensures) c.in-Some.ensures
 
 pub returns-in-None : goal.returns-in-None
 returns-in-None c =
-    to_last c.args.self.now _ _ _ _ (c.spot-spot.ensures.bay ∙ c.min-to.ensures) (c.in-None.ensures ∙ sym c.last_to_block.ensures)
+    to_last c.args.self.now _ _ _ _ (c.spot-block.ensures.bay ∙ c.min-to.ensures) (c.in-None.ensures ∙ sym c.last_to_block.ensures)

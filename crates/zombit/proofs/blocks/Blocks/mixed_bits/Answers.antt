@@ -3,17 +3,10 @@ use Rattle.std.proofs.Common.{◌≡◌, ℕ, ◌-◌, ◌*◌, ap, arith}
 use Rattle.sets.proofs.Tests.{count_others}
 use Rattle.bits.specs.Bits.{bit_at}
 use Rattle.zombit.specs.Blocks.{mixed_before}
-use Rattle.zombit.proofs.Places.{few_places}
 use Rattle.zombit.proofs.blocks.Blocks.mixed_bits.Goals as goal
 
-pub overflow_mul-result : goal.overflow_mul-result
-overflow_mul-result c = omega (arith, few_places c.args.self (c.args.k - c.ones.result) (omega (arith, c.requires.block)))
-
-pub returns : goal.returns
-returns c =
+pub returns-clause-value : goal.returns-clause-value
+returns-clause-value c =
     let U = bit_at c.args.uniform.now in
     let mixed : c.args.k - c.ones.result ≡ mixed_before U c.args.k = omega (arith, c.ones.ensures.value, count_others U c.args.k) in
-    record {
-      value = ap (λ (n : ℕ). n * c.args.self.size) mixed;
-      few = few_places c.args.self (c.args.k - c.ones.result) (omega (arith, c.requires.block));
-    }
+    ap (λ (n : ℕ). n * c.args.self.size) mixed

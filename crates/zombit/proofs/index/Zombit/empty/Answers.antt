@@ -1,5 +1,5 @@
 -- What is left to show of `Zombit::empty`.
-use Rattle.std.proofs.Common.{[], ◌∷◌, Ok, refl, arith}
+use Rattle.std.proofs.Common.{[], ◌∷◌, Ok, refl}
 use Rattle.sets.specs.Made.{set_by}
 use Rattle.sets.specs.Search.{first_from, count_to}
 use Rattle.bits.specs.Bits.{bit_at}
@@ -13,12 +13,9 @@ opens : OpeningIs 1 2 (1 ∷ []) (0 ∷ []) [] (Ok tt)
 unfolding first_from count_to bit_at
 opens = opening_law 1 2 (1 ∷ []) (0 ∷ []) []
 
-pub invariant_of-result : goal.invariant_of-result
-invariant_of-result c = record { sized = (omega arith, omega arith); blocked = (omega arith, omega arith) }
-
 pub invariant_of-result-2 : goal.invariant_of-result-2
 invariant_of-result-2 c = accepted 1 2 (1 ∷ []) (0 ∷ []) [] opens
 
-pub returns : goal.returns
+pub returns-clause-means : goal.returns-clause-means
 unfolding set_by bay_in bit_at
-returns c = record { last = refl; size = refl; uniform = refl; marked = refl; mixed = refl; means = refl }
+returns-clause-means c = refl
