@@ -1,88 +1,69 @@
-// Every question of a set, at each bay and beyond, against a row of yes and no that is counted bay by bay.
-use sets::{Counting, Sort, Walking};
+// Every question of a set, at each bay and beyond, against a row of yes and no.
+use sets::{Counting, Sort};
+use std::alloc::{AllocError, Global};
 use std::process::Abort;
+use std::test::Fail;
 
-pub(crate) const MOST: u32 = 4294967295;
-
-// Each question of one sort, at each bay of the row and beyond it.
-fn walk<S: Counting>(rt: &impl Abort, set: &S, row: &[bool], sort: Sort) {
-    let mut before: Option<u32> = None;
-    let mut count: u32 = 0;
-    let mut i: u32 = 0;
-    for member in row {
-        i = i.saturating_add(1);
-        assert_eq!(rt; set.holds(i), *member);
-        if *member == (sort == Sort::Members) {
-            count = count.saturating_add(1);
-            assert_eq!(rt; set.next(sort, i), Some(i));
-            assert_eq!(rt; set.select(sort, count), Some(i));
-            let after = before.unwrap_or(0).saturating_add(1);
-            assert_eq!(rt; set.next(sort, after), Some(i));
-            before = Some(i);
-        }
-        assert_eq!(rt; set.previous(sort, i), before);
-        assert_eq!(rt; set.rank(sort, i), count);
-    }
-    assert_eq!(rt; set.last(), i);
-    beyond(rt, set, i, sort, before, count);
+// The bays of a sort in a row.
+fn bays_of(alloc: Global, row: &[bool], sort: Sort) -> Result<Vec<u32>, AllocError> {
+    (1..)
+        .zip(row)
+        .filter(|(_, member)| **member == (sort == Sort::Members))
+        .map(|(bay, _)| bay)
+        .collect(alloc)
 }
 
-// The same questions at 0 and beyond the last bay.
-fn beyond<S: Counting>(
-    rt: &impl Abort,
-    set: &S,
-    last: u32,
-    sort: Sort,
-    before: Option<u32>,
-    count: u32,
-) {
-    let after = before.unwrap_or(0).saturating_add(1);
-    assert_eq!(rt; set.next(sort, 0), set.next(sort, 1));
-    assert_eq!(rt; set.next(sort, after), None);
-    assert_eq!(rt; set.previous(sort, 0), None);
-    assert_eq!(rt; set.rank(sort, 0), 0);
+// Holds, rank, previous and next at 0, at each bay and beyond the last, where `bays` are those of the sort.
+fn walk<S: Counting>(rt: &impl Abort, set: &S, row: &[bool], sort: Sort, bays: &[u32]) {
+    let last = set.last();
+    for i in (0..=last).chain([last.saturating_add(1), 65535, 65536, u32::MAX]) {
+        let member = i != 0 && matches!(row.get(i as usize - 1), Some(true));
+        let up_to = bays.partition_point(|bay| *bay <= i);
+        let below = bays.partition_point(|bay| *bay < i);
+        let previous = bays[..up_to].last().copied();
+        let next = bays[below..].first().copied();
+        assert_eq!(rt; set.holds(i), member, "{i}");
+        assert_eq!(rt; set.rank(sort, i) as usize, up_to, "{sort:?} {i}");
+        assert_eq!(rt; set.previous(sort, i), previous, "{sort:?} {i}");
+        assert_eq!(rt; set.next(sort, i), next, "{sort:?} {i}");
+    }
+}
+
+// Select at 0, at the number of each bay of the sort and beyond.
+fn count<S: Counting>(rt: &impl Abort, set: &S, sort: Sort, bays: &[u32]) {
     assert_eq!(rt; set.select(sort, 0), None);
-    assert_eq!(rt; set.select(sort, count.saturating_add(1)), None);
-    assert_eq!(rt; set.select(sort, MOST), None);
-    assert!(rt; !set.holds(0));
-    for i in [last.saturating_add(1), 65535, 65536, MOST] {
-        assert!(rt; !set.holds(i) || i == last);
-        assert_eq!(rt; set.previous(sort, i), before);
-        assert_eq!(rt; set.rank(sort, i), count);
+    for (n, bay) in (1..).zip(bays.iter().map(|bay| Some(*bay)).chain([None])) {
+        assert_eq!(rt; set.select(sort, n), bay, "{sort:?} {n}");
     }
-    assert_eq!(rt; set.next(sort, last.saturating_add(1)), None);
-    assert_eq!(rt; set.next(sort, MOST), None);
+    assert_eq!(rt; set.select(sort, u32::MAX), None);
 }
 
-pub(crate) fn questions<S: Counting>(rt: &impl Abort, set: &S, row: &[bool]) {
-    walk(rt, set, row, Sort::Members);
-    walk(rt, set, row, Sort::Others);
+// Every question of a set, of which a row has the members.
+pub(crate) fn questions<S: Counting>(
+    rt: &(impl Abort + AllocGlobal),
+    set: &S,
+    row: &[bool],
+) -> Result<(), Fail> {
+    assert_eq!(rt; set.last() as usize, row.len());
+    for sort in [Sort::Members, Sort::Others] {
+        let bays = bays_of(rt.alloc(), row, sort)?;
+        walk(rt, set, row, sort, &bays);
+        count(rt, set, sort, &bays);
+    }
+    Ok(())
 }
 
-// Single bays, short and long runs.
-pub(crate) const MIXED: [u8; 40] = [
-    165, 77, 0, 255, 128, 24, 37, 0, 255, 240, 48, 187, 0, 255, 254, 29, 109, 0, 255, 1, 44, 222,
-    0, 255, 128, 35, 123, 0, 255, 1, 217, 30, 0, 255, 240, 63, 114, 0, 255, 127,
-];
-
-// The bits of some bytes as a row, which ends with false where there are fewer.
-pub(crate) fn row_of(bytes: &[u8]) -> [bool; 320] {
-    let mut row = [false; 320];
-    let mut i: usize = 0;
-    for byte in bytes {
-        for place in 0..8u32 {
-            if i < 320 {
-                row[i] = (*byte >> place) % 2 == 1;
-                i += 1;
-            }
-        }
-    }
-    row
-}
-
-// Puts a 1 behind the first `i` bits.
-pub(crate) fn put(bits: &mut [u8], i: usize) {
-    if i / 8 < bits.len() {
-        bits[i / 8] = bits[i / 8] | 1 << (i % 8);
-    }
+// The questions of the set of 65,535 bays whose members are 1, 64, 65 and 65,535.
+pub(crate) fn far_members<S: Counting>(rt: &impl Abort, set: &S) {
+    assert_eq!(rt; set.next(Sort::Members, 2), Some(64));
+    assert_eq!(rt; set.next(Sort::Members, 66), Some(65535));
+    assert_eq!(rt; set.next(Sort::Members, 65536), None);
+    assert_eq!(rt; set.previous(Sort::Members, 65534), Some(65));
+    assert_eq!(rt; set.previous(Sort::Others, 65535), Some(65534));
+    assert_eq!(rt; set.next(Sort::Others, 64), Some(66));
+    assert_eq!(rt; set.rank(Sort::Members, 65534), 3);
+    assert_eq!(rt; set.rank(Sort::Others, 65535), 65531);
+    assert_eq!(rt; set.select(Sort::Members, 4), Some(65535));
+    assert_eq!(rt; set.select(Sort::Others, 65531), Some(65534));
+    assert_eq!(rt; set.select(Sort::Others, 65532), None);
 }

@@ -1,103 +1,73 @@
-// The questions of a pioneer index at every bay, with its parts written bay by bay.
-use super::asked::{MIXED, put, questions, row_of};
-use super::plain_form::far_members;
-use pioneer::Pioneer;
+// The questions of a pioneer index at every bay.
+use super::asked::{far_members, questions};
+use super::forms::{Form, ask_mixed, ask_none_and_all, ask_small_sets};
+use super::rows::bytes_of;
+use opening::Opens;
+use pioneer::{Pioneer, PioneerSource};
 use std::process::Abort;
+use std::test::Fail;
 
-// The two parts of an index, and the number of members.
 #[derive(Clone, Copy)]
-struct Parts {
-    starts: [u8; 40],
-    sums: [u8; 40],
-    count: usize,
-}
+struct InRuns;
 
-// Notes bay `i`, from 0: a run begins at the first member, and ends before the first non-member behind it.
-fn note(parts: &mut Parts, before: bool, member: bool, i: usize) {
-    let count = parts.count;
-    if member && !before {
-        put(&mut parts.starts, i);
-    }
-    if !member && before {
-        put(&mut parts.sums, count.saturating_sub(1));
-    }
-    if member {
-        parts.count = count.saturating_add(1);
-    }
-}
-
-fn parts_of(row: &[bool]) -> Parts {
-    let mut parts = Parts {
-        starts: [0; 40],
-        sums: [0; 40],
-        count: 0,
-    };
-    let mut before = false;
-    let mut i: usize = 0;
-    for member in row {
-        note(&mut parts, before, *member, i);
-        before = *member;
-        i = i.saturating_add(1);
-    }
-    note(&mut parts, before, false, i);
-    parts
-}
-
-fn ask_parts<'a>(rt: &impl Abort, row: &[bool], count: u32, starts: &'a [u8], sums: &'a [u8]) {
-    assert!(rt; row.len() <= 320);
-    let mut index = Pioneer::empty();
-    assert!(rt; index.open(row.len() as u32, count, starts, sums).is_ok());
-    questions(rt, &index, row);
-}
-
-fn ask(rt: &impl Abort, row: &[bool]) {
-    let parts = parts_of(row);
-    let count = parts.count;
-    assert!(rt; row.len() <= 320 && count <= 320);
-    let starts = &parts.starts[0..(row.len() + 7) / 8];
-    ask_parts(
-        rt,
-        row,
-        count as u32,
-        starts,
-        &parts.sums[0..(count + 7) / 8],
-    )
-}
-
-#[test]
-fn every_set_of_eight_bays(rt: HostRuntime) {
-    for set in 0..=255u8 {
-        ask(&rt, &row_of(&[set])[0..8]);
+impl Form for InRuns {
+    // A run begins at each member behind a non-member. Each member has a bit among the sums, which is 1 where its run ends.
+    fn ask<R: Abort + AllocGlobal>(&self, rt: &R, row: &[bool]) -> Result<(), Fail> {
+        let begins: Vec<bool> = row
+            .iter()
+            .zip([false].iter().chain(row))
+            .map(|(member, before)| *member && !*before)
+            .collect(rt.alloc())?;
+        let ends: Vec<bool> = row
+            .iter()
+            .zip(row.iter().skip(1).chain(&[false]))
+            .filter(|(member, _)| **member)
+            .map(|(_, after)| !*after)
+            .collect(rt.alloc())?;
+        let starts = bytes_of(rt.alloc(), &begins)?;
+        let sums = bytes_of(rt.alloc(), &ends)?;
+        let mut index = Pioneer::empty();
+        index.open(PioneerSource {
+            last: u32::try_from(row.len())?,
+            count: u32::try_from(ends.len())?,
+            starts: &starts,
+            sums: &sums,
+        })?;
+        questions(rt, &index, row)
     }
 }
 
 #[test]
-fn runs_and_single_bays(rt: HostRuntime) {
-    let row = row_of(&MIXED);
-    for length in 1..=320usize {
-        ask(&rt, &row[0..length]);
-    }
+fn every_set_of_eight_bays(rt: HostRuntime) -> Result<(), Fail> {
+    ask_small_sets(&rt, &InRuns, &[8])
 }
 
 #[test]
-fn none_and_all(rt: HostRuntime) {
-    let none = row_of(&[]);
-    let all = row_of(&[255; 40]);
-    for length in [1usize, 7, 8, 9, 63, 64, 65, 127, 128, 129, 320] {
-        ask(&rt, &none[0..length]);
-        ask(&rt, &all[0..length]);
-    }
+fn runs_and_single_bays(rt: HostRuntime) -> Result<(), Fail> {
+    let lengths: Vec<usize> = (1..=320).collect(rt.alloc())?;
+    ask_mixed(&rt, &InRuns, &lengths)
+}
+
+#[test]
+fn none_and_all(rt: HostRuntime) -> Result<(), Fail> {
+    let lengths = [1, 7, 8, 9, 63, 64, 65, 127, 128, 129, 320];
+    ask_none_and_all(&rt, &InRuns, &lengths)
 }
 
 // Members 1, 64, 65 and 65,535 of 65,535 bays, in three runs.
 #[test]
-fn far_apart(rt: HostRuntime) {
-    let mut starts = [0u8; 8192];
+fn far_apart(rt: HostRuntime) -> Result<(), Fail> {
+    let mut starts = [0; 8192];
     starts[0] = 1;
     starts[7] = 128;
     starts[8191] = 64;
-    let sums = [13u8];
     let mut index = Pioneer::empty();
-    assert!(rt; index.open(65535, 4, &starts, &sums).is_ok());
+    index.open(PioneerSource {
+        last: 65535,
+        count: 4,
+        starts: &starts,
+        sums: &[13],
+    })?;
     far_members(&rt, &index);
+    Ok(())
 }

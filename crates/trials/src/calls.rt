@@ -1,6 +1,7 @@
 // The calls of a round at their edges.
+use super::openings::opened;
 use faults::Refusal;
-use plain::Plain;
+use plain::{Plain, PlainSource};
 use round::{Report, Round, Taken, Written};
 use sets::{Counting, Walking};
 use std::process::Abort;
@@ -13,13 +14,9 @@ const CHARGING: [u8; 2] = [18, 35];
 // Bays 4 and 8 of 9.
 const SIDES: [u8; 2] = [136, 0];
 
-const MOST: u32 = 4294967295;
-
-// The index of the bits, which are lawful.
-fn opened<'a>(last: u32, bits: &'a [u8]) -> Plain<'a> {
-    let mut index = Plain::empty();
-    let _ = index.open(last, bits);
-    index
+// The plain index of the bits, which are lawful.
+fn index_of<'a>(rt: &impl Abort, last: u32, bits: &'a [u8]) -> Plain<'a> {
+    opened(rt, Plain::empty(), PlainSource { last, bits })
 }
 
 fn report(handed: u32, stretches: u32, place: u32) -> Report {
@@ -44,7 +41,7 @@ fn counts<F: Counting, C: Walking>(rt: &impl Abort, round: &Round<F, C>) {
         (0, 17, Err(Refusal::NoBay)),
         (1, 0, Err(Refusal::NoBay)),
         (17, 16, Err(Refusal::NoBay)),
-        (MOST, 1, Err(Refusal::NoBay)),
+        (u32::MAX, 1, Err(Refusal::NoBay)),
         (1, 1, Ok(1)),
         (1, 16, Ok(7)),
         (4, 7, Ok(0)),
@@ -52,8 +49,8 @@ fn counts<F: Counting, C: Walking>(rt: &impl Abort, round: &Round<F, C>) {
         (16, 16, Ok(0)),
         (1, 17, Err(Refusal::Beyond)),
         (17, 17, Err(Refusal::Beyond)),
-        (1, MOST, Err(Refusal::Beyond)),
-        (MOST, MOST, Err(Refusal::Beyond)),
+        (1, u32::MAX, Err(Refusal::Beyond)),
+        (u32::MAX, u32::MAX, Err(Refusal::Beyond)),
     ];
     for (a, b, due) in cases {
         assert_eq!(rt; round.count(a, b), due);
@@ -68,7 +65,7 @@ fn nearests<F: Counting, C: Walking>(rt: &impl Abort, round: &Round<F, C>) {
         (6, Ok(Some(8))),
         (16, Ok(Some(11))),
         (17, Err(Refusal::Beyond)),
-        (MOST, Err(Refusal::Beyond)),
+        (u32::MAX, Err(Refusal::Beyond)),
     ];
     for (p, due) in cases {
         assert_eq!(rt; round.nearest(p), due);
@@ -82,7 +79,7 @@ fn signs<F: Counting, C: Walking>(rt: &impl Abort, round: &Round<F, C>) {
         (2, Err(Refusal::Beyond)),
         (16, Err(Refusal::Beyond)),
         (17, Err(Refusal::NoSign)),
-        (MOST, Err(Refusal::NoSign)),
+        (u32::MAX, Err(Refusal::NoSign)),
     ];
     for (sign, due) in cases {
         assert_eq!(rt; round.sign(sign), due);
@@ -97,7 +94,7 @@ fn picks<F: Counting, C: Walking>(rt: &impl Abort, round: &Round<F, C>) {
         (8, Err(Refusal::TooFew)),
         (16, Err(Refusal::TooFew)),
         (17, Err(Refusal::TooFew)),
-        (MOST, Err(Refusal::TooFew)),
+        (u32::MAX, Err(Refusal::TooFew)),
     ];
     for (k, due) in cases {
         assert_eq!(rt; round.pick(k), due);
@@ -119,7 +116,7 @@ fn goes<F: Counting, C: Walking>(rt: &impl Abort, round: &mut Round<F, C>) {
         (8, Err(Refusal::Behind)),
         (16, Ok(())),
         (18, Err(Refusal::Beyond)),
-        (MOST, Err(Refusal::Beyond)),
+        (u32::MAX, Err(Refusal::Beyond)),
         (17, Ok(())),
         (16, Err(Refusal::Behind)),
         (0, Err(Refusal::NoBay)),
@@ -147,8 +144,8 @@ fn sheets<F: Counting, C: Walking>(rt: &impl Abort, round: &mut Round<F, C>) {
 
 #[test]
 fn calls_that_ask(rt: HostRuntime) {
-    let free = opened(16, &FREE);
-    let charging = opened(16, &CHARGING);
+    let free = index_of(&rt, 16, &FREE);
+    let charging = index_of(&rt, 16, &CHARGING);
     let round = Round::new(&free, &charging);
     asks(&rt, &round);
     let closed = round.close();
@@ -157,8 +154,8 @@ fn calls_that_ask(rt: HostRuntime) {
 
 #[test]
 fn calls_that_go(rt: HostRuntime) {
-    let free = opened(16, &FREE);
-    let charging = opened(16, &CHARGING);
+    let free = index_of(&rt, 16, &FREE);
+    let charging = index_of(&rt, 16, &CHARGING);
     let mut round = Round::new(free, charging);
     goes(&rt, &mut round);
     let closed = round.close();
@@ -167,8 +164,8 @@ fn calls_that_go(rt: HostRuntime) {
 
 #[test]
 fn calls_that_write(rt: HostRuntime) {
-    let free = opened(16, &FREE);
-    let charging = opened(16, &CHARGING);
+    let free = index_of(&rt, 16, &FREE);
+    let charging = index_of(&rt, 16, &CHARGING);
     let mut round = Round::new(free, charging);
     sheets(&rt, &mut round);
     let closed = round.close();
@@ -191,8 +188,8 @@ fn shorter<F: Counting, C: Walking>(rt: &impl Abort, round: &mut Round<F, C>) {
 
 #[test]
 fn calls_up_to_the_smaller_last_bay(rt: HostRuntime) {
-    let free = opened(16, &FREE);
-    let sides = opened(9, &SIDES);
+    let free = index_of(&rt, 16, &FREE);
+    let sides = index_of(&rt, 9, &SIDES);
     let mut round = Round::new(free, sides);
     shorter(&rt, &mut round);
     let closed = round.close();
@@ -201,7 +198,7 @@ fn calls_up_to_the_smaller_last_bay(rt: HostRuntime) {
 
 #[test]
 fn the_lower_bay_at_equal_distance(rt: HostRuntime) {
-    let sides = opened(9, &SIDES);
+    let sides = index_of(&rt, 9, &SIDES);
     let round = Round::new(sides, sides);
     let nearest = round.nearest(6);
     let past = round.nearest(7);
@@ -228,9 +225,9 @@ fn largest<F: Counting, C: Walking>(rt: &impl Abort, round: &mut Round<F, C>) {
 
 #[test]
 fn calls_in_the_largest_garage(rt: HostRuntime) {
-    let mut memory = [255u8; 8192];
+    let mut memory = [255; 8192];
     memory[8191] = 127;
-    let all = opened(65535, &memory);
+    let all = index_of(&rt, 65535, &memory);
     let mut round = Round::new(all, all);
     largest(&rt, &mut round);
     let closed = round.close();

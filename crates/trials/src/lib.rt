@@ -1,4 +1,4 @@
-// Tables of openings and of calls of a round at their edges, and the plain form asked at every bay.
+// Tables of openings and of calls of a round at their edges.
 #![tactic(auto)]
 
 #[cfg(test)]
@@ -6,12 +6,12 @@ mod calls;
 #[cfg(test)]
 mod list_form;
 #[cfg(test)]
+mod openings;
+#[cfg(test)]
 mod pairs;
 #[cfg(test)]
 mod pioneer_form;
 #[cfg(test)]
 mod plain_form;
-#[cfg(test)]
-mod questions;
 #[cfg(test)]
 mod zombit_form;

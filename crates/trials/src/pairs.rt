@@ -1,4 +1,5 @@
 // Opening a pair of each form: each side damaged in turn, and what the two indexes are then.
+use super::openings::{old, opened};
 use faults::{Fault, Flaw, Form};
 use list::{List, ListSource};
 use opening::{Opens, PairFault, Side, open_pair};
@@ -16,37 +17,29 @@ fn refused(side: Side, flaw: Flaw, part: u8) -> Result<(), PairFault> {
     })
 }
 
-// Opens a pair in the place of the indexes of 3 bays, F with the members 1 and 3 and C with the member 2.
-fn open_over<'a>(
+// Opens two sources in the places of two indexes, which are still there after a refusal.
+fn open_over<X: Opens + PartialEq>(
     rt: &impl Abort,
-    old_f: &'a [u8],
-    old_c: &'a [u8],
-    f_source: PlainSource<'a>,
-    c_source: PlainSource<'a>,
+    old: (X, X),
+    sources: (X::Source, X::Source),
     due: Result<(), PairFault>,
-) {
-    let mut f = Plain::empty();
-    let mut c = Plain::empty();
-    assert_eq!(rt; f.open(3, old_f).is_ok(), true);
-    assert_eq!(rt; c.open(3, old_c).is_ok(), true);
-    assert_eq!(rt; open_pair(&mut f, &mut c, f_source, c_source), due);
-    match due {
-        Ok(()) => {
-            assert_eq!(rt; f.last(), f_source.last);
-            assert_eq!(rt; c.last(), c_source.last);
-            assert!(rt; f.holds(8) && !f.holds(2) && c.holds(2) && !c.holds(8));
-        }
-        Err(_) => {
-            assert!(rt; f.last() == 3 && f.holds(1) && !f.holds(2) && f.holds(3));
-            assert!(rt; c.last() == 3 && !c.holds(1) && c.holds(2) && !c.holds(3));
-        }
-    }
+) -> (X, X) {
+    let (mut f, mut c) = old;
+    assert_eq!(rt; open_pair(&mut f, &mut c, sources.0, sources.1), due);
+    assert!(rt; due.is_ok() || f == old.0 && c == old.1);
+    (f, c)
+}
+
+fn source<'a>(last: u32, bits: &'a [u8]) -> PlainSource<'a> {
+    PlainSource { last, bits }
 }
 
 #[test]
 fn pairs(rt: HostRuntime) {
-    let (old_f, old_c) = ([5u8], [2u8]);
-    let (f_bits, c_bits) = ([128u8], [2u8]);
+    let old_f = old(&rt, Plain::empty(), source(3, &[5]));
+    let old_c = opened(&rt, Plain::empty(), source(3, &[2]));
+    assert_eq!(rt; old_c.last(), 3);
+    assert!(rt; !old_c.holds(1) && old_c.holds(2) && !old_c.holds(3));
     let cases = [
         (8, 8, Ok(())),
         (8, 4, Ok(())),
@@ -61,35 +54,30 @@ fn pairs(rt: HostRuntime) {
         (0, 0, refused(Side::F, Flaw::Numbers, 0)),
     ];
     for (f_last, c_last, due) in cases {
-        let f_source = PlainSource {
-            last: f_last,
-            bits: &f_bits,
-        };
-        let c_source = PlainSource {
-            last: c_last,
-            bits: &c_bits,
-        };
-        open_over(&rt, &old_f, &old_c, f_source, c_source, due);
+        let sources = (source(f_last, &[128]), source(c_last, &[2]));
+        let (f, c) = open_over(&rt, (old_f, old_c), sources, due);
+        if due.is_ok() {
+            assert!(rt; f.last() == f_last && c.last() == c_last);
+            assert!(rt; f.holds(8) && !f.holds(2) && c.holds(2) && !c.holds(8));
+        }
     }
 }
 
-// Opens two sources over copies of an index of one bay: of 16 bays where there is no fault, else unchanged.
-fn open_sources<X: Opens>(
+// Opens two sources over copies of an index of one bay: of 16 bays where there is no fault.
+fn open_sources<X: Opens + PartialEq>(
     rt: &impl Abort,
     empty: X,
     f_source: X::Source,
     c_source: X::Source,
     due: Result<(), PairFault>,
 ) {
-    let mut f = empty;
-    let mut c = empty;
-    assert_eq!(rt; open_pair(&mut f, &mut c, f_source, c_source), due);
+    let (f, c) = open_over(rt, (empty, empty), (f_source, c_source), due);
     let last = if due.is_ok() { 16 } else { 1 };
     assert!(rt; f.last() == last && c.last() == last);
 }
 
 // A lawful source of 16 bays, and a damaged one, on either side.
-fn each_side<X: Opens>(
+fn each_side<X: Opens + PartialEq>(
     rt: &impl Abort,
     empty: X,
     lawful: X::Source,
@@ -116,54 +104,40 @@ fn fault(flaw: Flaw, form: Form, part: u8) -> Fault {
 
 #[test]
 fn pairs_of_lists(rt: HostRuntime) {
-    let numbers = [1u16, 2, 3, 8, 9, 10, 11];
-    let falling = [2u16, 1];
     let lawful = ListSource {
         last: 16,
-        numbers: &numbers,
+        numbers: &[1, 2, 3, 8, 9, 10, 11],
     };
     let damaged = ListSource {
-        last: 16,
-        numbers: &falling,
+        numbers: &[2, 1],
+        ..lawful
     };
-    each_side(
-        &rt,
-        List::empty(),
-        lawful,
-        damaged,
-        fault(Flaw::Content, Form::List, 1),
-    );
-}
-
-// The garage in blocks of two, with other numbers and parts.
-fn blocks<'a>(size: u32, marked: &'a [u8], mixed: &'a [u8]) -> ZombitSource<'a> {
-    ZombitSource {
-        last: 16,
-        size,
-        uniform: &[213],
-        marked,
-        mixed,
-    }
+    let due = fault(Flaw::Content, Form::List, 1);
+    each_side(&rt, List::empty(), lawful, damaged, due);
 }
 
 #[test]
 fn pairs_in_blocks(rt: HostRuntime) {
-    let (marked, mixed) = ([59u8], [25u8]);
-    let (unmarked, full) = ([57u8], [27u8]);
-    let lawful = blocks(2, &marked, &mixed);
+    let lawful = ZombitSource {
+        last: 16,
+        size: 2,
+        uniform: &[213],
+        marked: &[59],
+        mixed: &[25],
+    };
+    let small = ZombitSource { size: 1, ..lawful };
+    let full = ZombitSource {
+        mixed: &[27],
+        ..lawful
+    };
+    let unmarked = ZombitSource {
+        marked: &[57],
+        ..full
+    };
     let cases = [
-        (
-            blocks(1, &marked, &mixed),
-            fault(Flaw::BlockSize, Form::Zombit, 0),
-        ),
-        (
-            blocks(2, &unmarked, &full),
-            fault(Flaw::Unlawful, Form::Zombit, 2),
-        ),
-        (
-            blocks(2, &marked, &full),
-            fault(Flaw::Unlawful, Form::Zombit, 3),
-        ),
+        (small, fault(Flaw::BlockSize, Form::Zombit, 0)),
+        (unmarked, fault(Flaw::Unlawful, Form::Zombit, 2)),
+        (full, fault(Flaw::Unlawful, Form::Zombit, 3)),
     ];
     for (damaged, due) in cases {
         each_side(&rt, Zombit::empty(), lawful, damaged, due);
@@ -172,26 +146,16 @@ fn pairs_in_blocks(rt: HostRuntime) {
 
 #[test]
 fn pairs_of_runs(rt: HostRuntime) {
-    let starts = [129u8, 0];
-    let sums = [68u8];
-    let touching = [9u8, 0];
     let lawful = PioneerSource {
         last: 16,
         count: 7,
-        starts: &starts,
-        sums: &sums,
+        starts: &[129, 0],
+        sums: &[68],
     };
-    let damaged = PioneerSource {
-        last: 16,
-        count: 7,
-        starts: &touching,
-        sums: &sums,
+    let touching = PioneerSource {
+        starts: &[9, 0],
+        ..lawful
     };
-    each_side(
-        &rt,
-        Pioneer::empty(),
-        lawful,
-        damaged,
-        fault(Flaw::Unlawful, Form::Pioneer, 2),
-    );
+    let due = fault(Flaw::Unlawful, Form::Pioneer, 2);
+    each_side(&rt, Pioneer::empty(), lawful, touching, due);
 }

@@ -1,43 +1,33 @@
 // Opening a pioneer index: each refusal at its edge, and what the index is then.
+use super::openings::{old, open_over, refused};
 use faults::{Fault, Flaw, Form};
-use pioneer::Pioneer;
+use pioneer::{Pioneer, PioneerSource};
 use sets::{Counting, Sort, Walking};
 use std::process::Abort;
 
-const MOST: u32 = 4294967295;
-
-// Bays 1 and 3 of 3.
-const OLD_STARTS: [u8; 1] = [5];
-
-const OLD_SUMS: [u8; 1] = [3];
-
-fn refused(flaw: Flaw, part: u8) -> Result<(), Fault> {
-    Err(Fault {
-        flaw,
-        form: Form::Pioneer,
-        part,
-    })
-}
-
-fn is_as_it_was(index: &Pioneer<'_>) -> bool {
-    index.last() == 3 && index.holds(1) && !index.holds(2) && index.holds(3)
+fn source<'a>(last: u32, count: u32, starts: &'a [u8], sums: &'a [u8]) -> PioneerSource<'a> {
+    PioneerSource {
+        last,
+        count,
+        starts,
+        sums,
+    }
 }
 
 // Opens two parts in the place of another index.
-fn opens<'a>(
+fn opens(
     rt: &impl Abort,
     last: u32,
     count: u32,
-    starts: &'a [u8],
-    sums: &'a [u8],
+    starts: &[u8],
+    sums: &[u8],
     due: Result<(), Fault>,
 ) {
-    let mut index = Pioneer::empty();
-    assert_eq!(rt; index.open(3, 2, &OLD_STARTS, &OLD_SUMS), Ok(()));
-    assert_eq!(rt; index.open(last, count, starts, sums), due);
-    match due {
-        Ok(()) => assert!(rt; index.last() == last && index.rank(Sort::Members, MOST) == count),
-        Err(_) => assert!(rt; is_as_it_was(&index)),
+    let old = old(rt, Pioneer::empty(), source(3, 2, &[5], &[3]));
+    let index = open_over(rt, old, source(last, count, starts, sums), due);
+    if due.is_ok() {
+        assert_eq!(rt; index.last(), last);
+        assert_eq!(rt; index.rank(Sort::Members, u32::MAX), count);
     }
 }
 
@@ -54,20 +44,20 @@ fn lawful_ones(rt: HostRuntime) {
 
 #[test]
 fn wrong_numbers(rt: HostRuntime) {
-    let due = refused(Flaw::Numbers, 0);
+    let due = refused(Form::Pioneer, Flaw::Numbers, 0);
     opens(&rt, 0, 0, &[], &[], due);
     opens(&rt, 0, 1, &[0], &[1], due);
     opens(&rt, 65536, 0, &[0], &[], due);
-    opens(&rt, MOST, 0, &[], &[], due);
+    opens(&rt, u32::MAX, 0, &[], &[], due);
     opens(&rt, 1, 2, &[1], &[2], due);
     opens(&rt, 16, 17, &[129, 0], &[68], due);
-    opens(&rt, 16, MOST, &[129, 0], &[68], due);
+    opens(&rt, 16, u32::MAX, &[129, 0], &[68], due);
 }
 
 #[test]
 fn wrong_lengths(rt: HostRuntime) {
-    let first = refused(Flaw::Length, 1);
-    let second = refused(Flaw::Length, 2);
+    let first = refused(Form::Pioneer, Flaw::Length, 1);
+    let second = refused(Form::Pioneer, Flaw::Length, 2);
     opens(&rt, 16, 7, &[129], &[68], first);
     opens(&rt, 16, 7, &[129, 0, 0], &[68], first);
     opens(&rt, 8, 3, &[], &[4], first);
@@ -83,8 +73,8 @@ fn wrong_lengths(rt: HostRuntime) {
 
 #[test]
 fn spare_bits(rt: HostRuntime) {
-    let first = refused(Flaw::Content, 1);
-    let second = refused(Flaw::Content, 2);
+    let first = refused(Form::Pioneer, Flaw::Content, 1);
+    let second = refused(Form::Pioneer, Flaw::Content, 2);
     opens(&rt, 3, 2, &[13], &[3], first);
     opens(&rt, 15, 7, &[129, 128], &[68], first);
     opens(&rt, 1, 0, &[2], &[], first);
@@ -97,7 +87,7 @@ fn spare_bits(rt: HostRuntime) {
 
 #[test]
 fn unlawful_runs(rt: HostRuntime) {
-    let due = refused(Flaw::Unlawful, 2);
+    let due = refused(Form::Pioneer, Flaw::Unlawful, 2);
     // More sums than runs, and more runs than sums.
     opens(&rt, 16, 7, &[129, 0], &[76], due);
     opens(&rt, 16, 7, &[129, 0], &[64], due);
@@ -117,18 +107,20 @@ fn unlawful_runs(rt: HostRuntime) {
 
 #[test]
 fn the_largest(rt: HostRuntime) {
-    let due = refused(Flaw::Unlawful, 2);
+    let numbers = refused(Form::Pioneer, Flaw::Numbers, 0);
+    let content = refused(Form::Pioneer, Flaw::Content, 2);
+    let unlawful = refused(Form::Pioneer, Flaw::Unlawful, 2);
     // One run of all bays.
-    let mut starts = [0u8; 8192];
-    let mut sums = [0u8; 8192];
+    let mut starts = [0; 8192];
+    let mut sums = [0; 8192];
     starts[0] = 1;
     sums[8191] = 64;
     opens(&rt, 65535, 65535, &starts, &sums, Ok(()));
-    opens(&rt, 65535, 65534, &starts, &sums, refused(Flaw::Content, 2));
-    opens(&rt, 65534, 65535, &starts, &sums, refused(Flaw::Numbers, 0));
+    opens(&rt, 65535, 65534, &starts, &sums, content);
+    opens(&rt, 65534, 65535, &starts, &sums, numbers);
     // As many runs as there can be.
-    let odd = [85u8; 8192];
-    let all = [255u8; 4096];
+    let odd = [85; 8192];
+    let all = [255; 4096];
     opens(&rt, 65535, 32768, &odd, &all, Ok(()));
-    opens(&rt, 65535, 32760, &odd, &all[0..4095], due);
+    opens(&rt, 65535, 32760, &odd, &all[..4095], unlawful);
 }

@@ -1,47 +1,27 @@
 // Opening a plain index: each refusal at its edge, and what the index is then.
+use super::openings::{old, open_over, refused};
 use faults::{Fault, Flaw, Form};
-use plain::Plain;
+use plain::{Plain, PlainSource};
 use sets::Walking;
 use std::process::Abort;
 
-fn refused(flaw: Flaw, part: u8) -> Result<(), Fault> {
-    Err(Fault {
-        flaw,
-        form: Form::Plain,
-        part,
-    })
+fn source<'a>(last: u32, bits: &'a [u8]) -> PlainSource<'a> {
+    PlainSource { last, bits }
 }
 
-// The index of bays 1 to 3, of which 1 and 3 are members.
-fn is_as_it_was(index: &Plain<'_>) -> bool {
-    index.last() == 3 && index.holds(1) && !index.holds(2) && index.holds(3)
-}
-
-// Opens the front of a memory in the place of another index.
-fn open_front<'a>(
-    rt: &impl Abort,
-    memory: &'a [u8],
-    old: &'a [u8],
-    last: u32,
-    length: usize,
-    due: Result<(), Fault>,
-) {
-    let mut index = Plain::empty();
-    assert_eq!(rt; index.open(3, old), Ok(()));
-    assert!(rt; length <= memory.len());
-    assert_eq!(rt; index.open(last, &memory[0..length]), due);
-    match due {
-        Ok(()) => assert!(rt; index.last() == last && !index.holds(1)),
-        Err(_) => assert!(rt; is_as_it_was(&index)),
-    }
+// Opens bits in the place of another index.
+fn opens<'a>(rt: &impl Abort, last: u32, bits: &'a [u8], due: Result<(), Fault>) -> Plain<'a> {
+    let old = old(rt, Plain::empty(), source(3, &[5]));
+    let index = open_over(rt, old, source(last, bits), due);
+    assert!(rt; due.is_err() || index.last() == last);
+    index
 }
 
 #[test]
 fn lengths(rt: HostRuntime) {
-    let memory = [0u8; 8194];
-    let old = [5u8];
-    let numbers = refused(Flaw::Numbers, 0);
-    let length = refused(Flaw::Length, 1);
+    let memory = [0; 8194];
+    let numbers = refused(Form::Plain, Flaw::Numbers, 0);
+    let length = refused(Form::Plain, Flaw::Length, 1);
     let cases = [
         (0, 0, numbers),
         (0, 1, numbers),
@@ -59,68 +39,55 @@ fn lengths(rt: HostRuntime) {
         (65535, 8193, length),
         (65536, 8192, numbers),
         (65536, 8193, numbers),
-        (4294967295, 0, numbers),
+        (u32::MAX, 0, numbers),
     ];
-    for (last, length, due) in cases {
-        open_front(&rt, &memory, &old, last, length, due);
-    }
-}
-
-// Opens two bytes that have one bit.
-fn open_bit(rt: &impl Abort, last: u32, bit: u32, due: Result<(), Fault>) {
-    let mut memory = [0u8; 2];
-    let old = [5u8];
-    let p = bit % 16;
-    memory[(p / 8) as usize] = 1 << (p % 8);
-    let mut index = Plain::empty();
-    assert_eq!(rt; index.open(3, &old), Ok(()));
-    let length = if last <= 8 { 1 } else { 2 };
-    assert_eq!(rt; index.open(last, &memory[0..length]), due);
-    match due {
-        Ok(()) => assert!(rt; index.holds(p + 1)),
-        Err(_) => assert!(rt; is_as_it_was(&index)),
+    for (last, bytes, due) in cases {
+        assert!(rt; bytes <= memory.len());
+        let index = opens(&rt, last, &memory[..bytes], due);
+        assert!(rt; due.is_err() || !index.holds(1));
     }
 }
 
 // Each bit of the bytes, alone: up to the last it is a bay, after it a flaw.
-fn open_each_bit(rt: &impl Abort, last: u32) {
-    let bits = if last <= 8 { 8 } else { 16 };
-    for bit in 0..bits {
-        let due = if bit < last {
-            Ok(())
-        } else {
-            refused(Flaw::Content, 1)
-        };
-        open_bit(rt, last, bit, due);
-    }
-}
-
 #[test]
 fn spare_bits(rt: HostRuntime) {
-    for last in 1..=16 {
-        open_each_bit(&rt, last);
+    for last in 1..=16u32 {
+        let bytes = last.div_ceil(8);
+        for bit in 0..8 * bytes {
+            let bits = (1u16 << bit).to_le_bytes();
+            let due = if bit < last {
+                Ok(())
+            } else {
+                refused(Form::Plain, Flaw::Content, 1)
+            };
+            let index = opens(&rt, last, &bits[..bytes as usize], due);
+            assert!(rt; due.is_err() || index.holds(bit + 1));
+        }
     }
 }
 
 #[test]
 fn spare_bit_of_the_largest(rt: HostRuntime) {
-    let mut memory = [255u8; 8192];
-    let mut index = Plain::empty();
-    assert_eq!(rt; index.open(65535, &memory), refused(Flaw::Content, 1));
+    let mut bits = [255; 8192];
+    let content = refused(Form::Plain, Flaw::Content, 1);
+    let index = open_over(&rt, Plain::empty(), source(65535, &bits), content);
     assert_eq!(rt; index.last(), 1);
-    memory[8191] = 127;
-    let mut full = Plain::empty();
-    assert_eq!(rt; full.open(65535, &memory), Ok(()));
+    bits[8191] = 127;
+    let full = open_over(&rt, Plain::empty(), source(65535, &bits), Ok(()));
     assert!(rt; full.holds(65535) && !full.holds(65536));
 }
 
 #[test]
 fn first_refusal_counts(rt: HostRuntime) {
-    let memory = [255u8; 3];
-    let mut index = Plain::empty();
-    assert_eq!(rt; index.open(0, &memory), refused(Flaw::Numbers, 0));
-    assert_eq!(rt; index.open(65536, &memory), refused(Flaw::Numbers, 0));
-    assert_eq!(rt; index.open(9, &memory), refused(Flaw::Length, 1));
-    assert_eq!(rt; index.open(17, &memory), refused(Flaw::Content, 1));
-    assert_eq!(rt; index.open(24, &memory), Ok(()));
+    let bits = [255; 3];
+    let cases = [
+        (0, refused(Form::Plain, Flaw::Numbers, 0)),
+        (65536, refused(Form::Plain, Flaw::Numbers, 0)),
+        (9, refused(Form::Plain, Flaw::Length, 1)),
+        (17, refused(Form::Plain, Flaw::Content, 1)),
+        (24, Ok(())),
+    ];
+    for (last, due) in cases {
+        opens(&rt, last, &bits, due);
+    }
 }

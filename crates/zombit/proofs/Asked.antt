@@ -6,8 +6,7 @@ use Rattle.sets.specs.Search.{first_from, count_to, kth_to}
 use Rattle.sets.specs.Sets.{next_of, select_of}
 use Rattle.sets.proofs.Made.{made_next, made_select}
 use Rattle.sets.proofs.Tests.{FirstIs, first_law, first_by, kth_by}
-use Rattle.zombit.specs.Blocks.{set_of}
-use Rattle.zombit.specs.Meant.{bays, places, sorted, first_place, cut_at}
+use Rattle.zombit.specs.Meant.{meaning, bays, places, sorted, first_place, cut_at}
 use Rattle.zombit.specs.declared.index.Zombit.{Zombit}
 use Rattle.zombit.proofs.Counted.{cut_kth}
 use Rattle.zombit.proofs.Indexed.{places_cover}
@@ -25,12 +24,12 @@ cut_first f p u n l = cut (first_from f p (suc n - p)) (first_law f p (suc n - p
         (λ e. let high = leb-false q u e in first_by f p _ None (λ j a b. law.3 j a (omega arith)))
 
 module _ (z : Zombit) (sort : Sort) where
-  pub next_is : (i : ℕ) → cut_at z.blocks.last (first_place z sort (max i 1)) ≡ next_of (set_of z.blocks.last z.blocks.size z.uniform.now z.marked.now z.mixed.now) sort i
+  pub next_is : (i : ℕ) → cut_at z.blocks.last (first_place z sort (max i 1)) ≡ next_of (meaning z) sort i
   next_is i = cut_first _ (max i 1) z.blocks.last (places z) (places_cover z) ∙ made_next z.blocks.last (bays z) sort i
 
-  pub select_is : (n : ℕ) → cut_at z.blocks.last (kth_to (sorted z sort) n (places z)) ≡ select_of (set_of z.blocks.last z.blocks.size z.uniform.now z.marked.now z.mixed.now) sort n
+  pub select_is : (n : ℕ) → cut_at z.blocks.last (kth_to (sorted z sort) n (places z)) ≡ select_of (meaning z) sort n
   select_is n = cut_kth _ n z.blocks.last (places z) (places_cover z) ∙ made_select z.blocks.last (bays z) sort n
 
   -- none at 0 and beyond their number
-  pub select_none : (n : ℕ) → (n ≡ 0) ⊎ (count_to (sorted z sort) (places z) < n) → None ≡ select_of (set_of z.blocks.last z.blocks.size z.uniform.now z.marked.now z.mixed.now) sort n
+  pub select_none : (n : ℕ) → (n ≡ 0) ⊎ (count_to (sorted z sort) (places z) < n) → None ≡ select_of (meaning z) sort n
   select_none n few = ap (cut_at z.blocks.last) (kth_by (sorted z sort) n (places z) None few) ∙ select_is n

@@ -105,12 +105,6 @@ module _ (f : ℕ → Bool) (a n : ℕ) where
       found None law e j p = law (a + j) (omega (arith, p.0)) (omega (arith, p.1))
       found (Some q) law e j p = absurd (both_ways _ e refl)
 
--- the search from the bit after a on, as it is asked for
-pub some_at : (f : ℕ → Bool) (a b n : ℕ) (r : Option ℕ) → r ≡ first_from f (a + 1) (suc b - (a + 1)) → b - a ≡ n → is_some r ≡ some_in f a n
-some_at f a b n r e l =
-    let many : suc b - (a + 1) ≡ n = omega arith in
-    ap is_some e ∙ (λ t. is_some (first_from f (add-one a t) (many t)))
-
 module _ (M : ℕ → Bool) (a β e : ℕ) where
   -- the β bits after the first a are not all 0 and not all 1, and none after the first e is 1
   abbrev Fit : Type 0

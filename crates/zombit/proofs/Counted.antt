@@ -9,14 +9,14 @@ use Rattle.sets.proofs.Tests.{KthIs, kth_law, kth_by, count_none, count_here, co
 use Rattle.bits.specs.Bits.{is_bit}
 use Rattle.zombit.specs.Blocks.{mixed_before, bits_before}
 use Rattle.zombit.specs.Lawful.{Place}
-use Rattle.zombit.specs.Meant.{U, O, M, blocks, places, bays, sorted, before, KindIs, InBlock, cut_at}
+use Rattle.zombit.specs.Meant.{U, O, M, blocks, places, bays, sorted, before, MixedAt, BitOf, KindIs, InBlock, cut_at}
 use Rattle.zombit.specs.declared.index.Zombit.{Zombit}
 use Rattle.zombit.specs.declared.kind.Kind.TheVariants.{All, Bare}
 use Rattle.zombit.proofs.Found.{as_bit}
 use Rattle.zombit.proofs.Indexed.{block_ends, bay_uniform, bay_mixed}
 
 -- one row follows another for n numbers
-pub count_along : (f g : ℕ → Bool) (a c n : ℕ) → ((j : ℕ) → 1 ≤ j → j ≤ n → f (a + j) ≡ g (c + j)) → count_to f (a + n) + count_to g c ≡ count_to g (c + n) + count_to f a
+count_along : (f g : ℕ → Bool) (a c n : ℕ) → ((j : ℕ) → 1 ≤ j → j ≤ n → f (a + j) ≡ g (c + j)) → count_to f (a + n) + count_to g c ≡ count_to g (c + n) + count_to f a
 count_along f g a c zero h =
     let x : a + zero ≡ a = omega arith in
     let y : c + zero ≡ c = omega arith in
@@ -34,7 +34,7 @@ count_along f g a c (suc n) h =
     (cases_Bool (f (suc (a + n))))
 
 -- all of n numbers pass
-pub count_all : (f : ℕ → Bool) (a n : ℕ) → ((j : ℕ) → 1 ≤ j → j ≤ n → f (a + j) ≡ true) → count_to f (a + n) ≡ count_to f a + n
+count_all : (f : ℕ → Bool) (a n : ℕ) → ((j : ℕ) → 1 ≤ j → j ≤ n → f (a + j) ≡ true) → count_to f (a + n) ≡ count_to f a + n
 count_all f a zero h = let x : a + zero ≡ a = omega arith in omega (arith, ap (count_to f) x)
 count_all f a (suc n) h =
     let x : a + suc n ≡ suc (a + n) = omega arith in
@@ -42,12 +42,12 @@ count_all f a (suc n) h =
     omega (arith, ap (count_to f) x, here, count_all f a n (λ j l k. h j l (omega arith)))
 
 -- none of them does
-pub count_bare : (f : ℕ → Bool) (a n : ℕ) → ((j : ℕ) → 1 ≤ j → j ≤ n → f (a + j) ≡ false) → count_to f (a + n) ≡ count_to f a
+count_bare : (f : ℕ → Bool) (a n : ℕ) → ((j : ℕ) → 1 ≤ j → j ≤ n → f (a + j) ≡ false) → count_to f (a + n) ≡ count_to f a
 count_bare f a n h = count_without f a (a + n) (omega arith)
     (λ j l k. let same : a + (j - a) ≡ j = omega arith in ap f (sym same) ∙ h (j - a) (omega arith) (omega arith))
 
 -- at most all of them do
-pub count_most : (f : ℕ → Bool) (a n : ℕ) → count_to f (a + n) ≤ count_to f a + n
+count_most : (f : ℕ → Bool) (a n : ℕ) → count_to f (a + n) ≤ count_to f a + n
 count_most f a zero = let x : a + zero ≡ a = omega arith in omega (arith, ap (count_to f) x)
 count_most f a (suc n) =
     let x : a + suc n ≡ suc (a + n) = omega arith in
@@ -58,7 +58,7 @@ count_most f a (suc n) =
     (cases_Bool (f (suc (a + n))))
 
 -- what a search for the k-th that was seen says
-pub kth_is : (f : ℕ → Bool) (k n : ℕ) (r : Option ℕ) → r ≡ kth_to f k n → KthIs f k n r
+kth_is : (f : ℕ → Bool) (k n : ℕ) (r : Option ℕ) → r ≡ kth_to f k n → KthIs f k n r
 kth_is f k n r e = subst (λ (t : Option ℕ). KthIs f k n t) (sym e) (kth_law f k n)
 
 -- the k-th up to n, cut at u
@@ -77,7 +77,7 @@ module _ (z : Zombit) where
   β = z.blocks.size
 
   -- each mixed block is marked
-  pub mixed_marked : (k : ℕ) → k ≤ blocks z → mixed_before (U z) k ≤ count_to (O z) k
+  mixed_marked : (k : ℕ) → k ≤ blocks z → mixed_before (U z) k ≤ count_to (O z) k
   mixed_marked zero h = omega (arith, count_none (λ j. not (U z j)))
   mixed_marked (suc k) h =
       let ih = mixed_marked k (omega arith) in
@@ -87,7 +87,7 @@ module _ (z : Zombit) where
       (cases_Bool (U z (suc k)))
 
   -- the members of the first k blocks
-  pub blocks_count : (k : ℕ) → k ≤ blocks z → count_to (bays z) (k * β) + bits_before β (U z) k ≡ count_to (O z) k * β + count_to (M z) (bits_before β (U z) k)
+  blocks_count : (k : ℕ) → k ≤ blocks z → count_to (bays z) (k * β) + bits_before β (U z) k ≡ count_to (O z) k * β + count_to (M z) (bits_before β (U z) k)
   blocks_count zero h =
       let e = zero-mul β in
       let none = ap (λ (n : ℕ). n * β) (count_none (λ j. not (U z j))) ∙ e in
@@ -141,7 +141,13 @@ module _ (z : Zombit) where
 
     -- ---- the n-th place of the sort, in block k
 
-    module _ (n left : ℕ) (h : k < blocks z) (less : count_to f (k * β) < n) (more : n ≤ count_to f (k * β + β)) (rest : left + count_to f (k * β) ≡ n) where
+    module _ (n seen : ℕ) (h : k < blocks z) (less : count_to f (k * β) < n) (more : n ≤ count_to f (k * β + β)) (counted : seen ≡ count_to f (k * β)) where
+      abbrev left : ℕ
+      left = n - seen
+
+      rest : left + count_to f (k * β) ≡ n
+      rest = omega (arith, less, counted)
+
       is_nth : (j : ℕ) → Place β j → f (k * β + j) ≡ true → count_to f (k * β + j) ≡ n → Some (k * β + j) ≡ kth_to f n (places z)
       is_nth j p hit count = kth_by f n (places z) (Some (k * β + j)) (omega (arith, p.0), omega (arith, p.1, block_ends z k h), hit, count)
 
@@ -161,15 +167,15 @@ module _ (z : Zombit) where
       abbrev a : ℕ
       a = before z k
 
-      part_bits : U z (suc k) ≡ false → (j : ℕ) → j ≤ β → count_to f (k * β + j) + count_to bits a ≡ count_to bits (a + j) + count_to f (k * β)
+      part_bits : MixedAt z k → (j : ℕ) → j ≤ β → count_to f (k * β + j) + count_to bits a ≡ count_to bits (a + j) + count_to f (k * β)
       part_bits mix j l = count_along f bits (k * β) a j (λ i b c. as_bit z sort k mix i (b, omega arith))
 
-      pub nth_inside : (q : ℕ) → Some q ≡ kth_to bits (count_to bits a + left) (a + β) → (a < q) × (q ≤ a + β)
+      pub nth_inside : (q : ℕ) → Some q ≡ kth_to bits (count_to bits a + left) (a + β) → BitOf z k q
       nth_inside q e =
           let law = kth_is bits _ _ (Some q) e in
           (⊎_elim (λ l. l) (λ g. absurd (omega (arith, law.3, count_mono bits q a g, rest, less))) (cases_lt a q), law.1)
 
-      nth_mixed : U z (suc k) ≡ false → (r : Option ℕ) → r ≡ kth_to bits (count_to bits a + left) (a + β) → option_map (λ q. k * β + (q - a)) r ≡ kth_to f n (places z)
+      nth_mixed : MixedAt z k → (r : Option ℕ) → r ≡ kth_to bits (count_to bits a + left) (a + β) → option_map (λ q. k * β + (q - a)) r ≡ kth_to f n (places z)
       nth_mixed mix None e =
           let law = kth_is bits _ _ None e in
           absurd (⊎_elim (λ none. omega (arith, none, rest, less)) (λ few. omega (arith, few, part_bits mix β (omega arith), rest, more)) law)
@@ -200,7 +206,7 @@ module _ (z : Zombit) where
     pub members_bare : KindIs z Members k Bare → full + count_to (M z) bits ≡ count_to (bays z) (k * β + at)
     members_bare none = omega (arith, seen, part_bare Members k at end none)
 
-    pub members_mixed : U z (suc k) ≡ false → full + count_to (M z) (bits + at) ≡ count_to (bays z) (k * β + at)
+    pub members_mixed : MixedAt z k → full + count_to (M z) (bits + at) ≡ count_to (bays z) (k * β + at)
     members_mixed mixed =
         let along = count_along (bays z) (M z) (k * β) bits at (λ j l g. bay_mixed z k j (l, omega arith) mixed ∙ ap (λ (n : ℕ). M z (n + j)) (sym start)) in
         omega (arith, seen, along)

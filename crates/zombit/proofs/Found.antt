@@ -9,7 +9,7 @@ use Rattle.sets.specs.Search.{first_from, last_to}
 use Rattle.sets.proofs.Tests.{FirstIs, LastIs, first_law, first_by, last_law, last_by}
 use Rattle.bits.specs.Bits.{is_bit}
 use Rattle.zombit.specs.Lawful.{Place}
-use Rattle.zombit.specs.Meant.{U, blocks, places, sorted, block_has, before, KindIs, InBlock, first_place, FirstTo, LastAfter}
+use Rattle.zombit.specs.Meant.{blocks, places, sorted, block_has, before, MixedAt, BitOf, KindIs, InBlock, first_place, FirstTo, LastAfter}
 use Rattle.zombit.specs.declared.index.Zombit.{Zombit}
 use Rattle.zombit.specs.declared.kind.Kind.TheVariants.{All, Bare}
 use Rattle.zombit.proofs.Indexed.{some_size, block_ends, bay_mixed, lacks_all, has_some}
@@ -30,19 +30,19 @@ module _ (z : Zombit) (sort : Sort) where
         let e : k * β + (p - k * β) ≡ p = omega arith in
         ap (sorted z sort) (sym e) ∙ h (p - k * β) (omega arith, omega arith) (omega arith) (omega arith)
 
-    pub first_all : (at : ℕ) → k < blocks z → Place β at → KindIs z sort k All → FirstTo z sort (k * β + at) (k * β + β) (Some (k * β + at))
+    first_all : (at : ℕ) → k < blocks z → Place β at → KindIs z sort k All → FirstTo z sort (k * β + at) (k * β + β) (Some (k * β + at))
     first_all at h p all = first_hit (sorted z sort) _ (places z) _ (omega arith) (omega (arith, block_ends z k h, p.1)) (all at p) (λ j l g. absurd (omega arith))
 
-    pub first_bare : (at : ℕ) → Place β at → KindIs z sort k Bare → FirstTo z sort (k * β + at) (k * β + β) None
+    first_bare : (at : ℕ) → Place β at → KindIs z sort k Bare → FirstTo z sort (k * β + at) (k * β + β) None
     first_bare at p none =
         let low = p.0 in
         let high = p.1 in
         first_skip (sorted z sort) _ _ (places z) (omega arith) (λ j l g. at_place false at β (λ i q a b. none i q) j (omega arith) (omega arith) l g)
 
-    pub last_all : (at : ℕ) → Place β at → KindIs z sort k All → LastAfter z sort (k * β) (k * β + at) (Some (k * β + at))
+    last_all : (at : ℕ) → Place β at → KindIs z sort k All → LastAfter z sort (k * β) (k * β + at) (Some (k * β + at))
     last_all at p all = let low = p.0 in last_hit (sorted z sort) _ _ (omega arith) (omega arith) (all at p) (λ j l g. absurd (omega arith))
 
-    pub last_bare : (at : ℕ) → Place β at → KindIs z sort k Bare → LastAfter z sort (k * β) (k * β + at) None
+    last_bare : (at : ℕ) → Place β at → KindIs z sort k Bare → LastAfter z sort (k * β) (k * β + at) None
     last_bare at p none =
         let low = p.0 in
         let high = p.1 in
@@ -55,7 +55,7 @@ module _ (z : Zombit) (sort : Sort) where
     abbrev a : ℕ
     a = before z k
 
-    pub as_bit : U z (suc k) ≡ false → (j : ℕ) → Place β j → sorted z sort (k * β + j) ≡ bits (a + j)
+    pub as_bit : MixedAt z k → (j : ℕ) → Place β j → sorted z sort (k * β + j) ≡ bits (a + j)
     as_bit n j p = ap (fits sort) (bay_mixed z k j p n)
 
     -- ---- the first place of the block from place at on, and the last up to it
@@ -67,10 +67,10 @@ module _ (z : Zombit) (sort : Sort) where
       high : at ≤ β
       high = p.1
 
-      pub first_inside : (q : ℕ) → Some q ≡ first_from bits (a + at) (suc (a + β) - (a + at)) → (a < q) × (q ≤ a + β)
+      pub first_inside : (q : ℕ) → Some q ≡ first_from bits (a + at) (suc (a + β) - (a + at)) → BitOf z k q
       first_inside q e = let law = first_is bits _ _ (Some q) e in (omega (arith, law.0, low), omega (arith, law.1, high))
 
-      first_mixed : k < blocks z → U z (suc k) ≡ false → (r : Option ℕ) → r ≡ first_from bits (a + at) (suc (a + β) - (a + at))
+      first_mixed : k < blocks z → MixedAt z k → (r : Option ℕ) → r ≡ first_from bits (a + at) (suc (a + β) - (a + at))
           → FirstTo z sort (k * β + at) (k * β + β) (option_map (λ q. k * β + (q - a)) r)
       first_mixed h n None e =
           let law = first_is bits _ _ None e in
@@ -92,16 +92,16 @@ module _ (z : Zombit) (sort : Sort) where
       first_in h Found seen r (inr (inr mixed)) =
           subst (FirstTo z sort (k * β + at) (k * β + β)) (sym mixed.3) (first_mixed h mixed.0 mixed.1 (seen mixed.1 mixed.2))
 
-      pub last_inside : (q : ℕ) → a < q → Some q ≡ last_to bits (a + at) → (a < q) × (q ≤ a + β)
+      pub last_inside : (q : ℕ) → a < q → Some q ≡ last_to bits (a + at) → BitOf z k q
       last_inside q more e = let law = last_is bits _ (Some q) e in (more, omega (arith, law.1, high))
 
       -- none of the bits behind the first a
-      last_gone : U z (suc k) ≡ false → ((j : ℕ) → a < j → j ≤ a + at → bits j ≡ false) → LastAfter z sort (k * β) (k * β + at) None
+      last_gone : MixedAt z k → ((j : ℕ) → a < j → j ≤ a + at → bits j ≡ false) → LastAfter z sort (k * β) (k * β + at) None
       last_gone n none =
           last_skip (sorted z sort) _ _ (omega arith)
           (λ j l g. at_place false 1 at (λ i b c d. as_bit n i b ∙ none (a + i) (omega (arith, b.0)) (omega arith)) j l (omega (arith, high)) (omega arith) g)
 
-      last_mixed : U z (suc k) ≡ false → (r : Option ℕ) → r ≡ last_to bits (a + at)
+      last_mixed : MixedAt z k → (r : Option ℕ) → r ≡ last_to bits (a + at)
           → LastAfter z sort (k * β) (k * β + at) (option_map (λ q. k * β + (q - a)) (option_filter (λ q. nat_lt a q) r))
       last_mixed n None e = let law = last_is bits _ None e in last_gone n (λ j l g. law j (omega arith) g)
       last_mixed n (Some q) e =

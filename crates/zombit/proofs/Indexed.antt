@@ -1,5 +1,5 @@
 -- The places of an opened index, block by block.
-use Rattle.std.proofs.Common.{◌≡◌, ℕ, suc, ◌+◌, ◌*◌, ◌<◌, ◌≤◌, Bool, true, false, not, ◌&&◌, length, sym, refl, ap, ◌∙◌, ⊎_elim, mul-le-mul_right, suc-mul, zero-mul, arith}
+use Rattle.std.proofs.Common.{◌≡◌, ℕ, suc, ◌+◌, ◌*◌, ◌<◌, ◌≤◌, Bool, true, false, not, ◌&&◌, length, sym, refl, ap, ◌∙◌, ⊎_elim, mul-le-mul_right, suc-mul, arith}
 use Rattle.std.proofs.lemmas.Bool.{cases_Bool, both_ways, cond-true, cond-false}
 use Rattle.sets.specs.declared.Sort.{Sort}
 use Rattle.sets.specs.declared.Sort.TheVariants.{Members, Others}
@@ -9,26 +9,23 @@ use Rattle.zombit.specs.Lawful.{Place}
 use Rattle.zombit.specs.Meant.{U, O, M, blocks, places, bays, sorted, block_has}
 use Rattle.zombit.specs.declared.index.Zombit.{Zombit}
 use Rattle.zombit.proofs.Room.{mixed_room}
-use Rattle.zombit.proofs.Places.{bay_in_block, block_in, blocks_reach, blocks_cover}
+use Rattle.zombit.proofs.Places.{bay_in_block, blocks_reach, blocks_cover}
 
 module _ (z : Zombit) where
   pub some_size : 1 ≤ z.blocks.size
   some_size = omega (arith, z.blocks.blocked.0)
 
-  pub some_block : 1 ≤ blocks z
-  some_block = block_in z.blocks.last z.blocks.size 0 some_size (omega (arith, zero-mul z.blocks.size, z.blocks.sized.0))
-
   pub places_cover : z.blocks.last ≤ places z
   places_cover = blocks_cover z.blocks.last z.blocks.size some_size
 
-  pub places_few : places z ≤ z.blocks.last + z.blocks.size
+  places_few : places z ≤ z.blocks.last + z.blocks.size
   places_few = blocks_reach z.blocks.last z.blocks.size some_size
 
   -- block k ends among the places
   pub block_ends : (k : ℕ) → k < blocks z → k * z.blocks.size + z.blocks.size ≤ places z
   block_ends k h = omega (arith, mul-le-mul_right z.blocks.size h, suc-mul k z.blocks.size)
 
-  pub before_le : (k : ℕ) → k ≤ blocks z → bits_before z.blocks.size (U z) k ≤ places z
+  before_le : (k : ℕ) → k ≤ blocks z → bits_before z.blocks.size (U z) k ≤ places z
   before_le k h =
       let few = count_le (λ j. not (U z j)) k in
       let l : mixed_before (U z) k ≤ blocks z = omega arith in

@@ -1,5 +1,5 @@
 -- Where a bay lies in its block, and how far the blocks reach.
-use Rattle.std.proofs.Common.{◌≡◌, ℕ, zero, suc, ◌+◌, ◌-◌, ◌*◌, ◌/◌, ◌%◌, ◌<◌, ◌≤◌, Bool, ap, ◌∙◌, ⊎_elim, mul-le-mul_right, suc-mul, mul_comm, le-div_iff_mul-le, zero-mul, arith}
+use Rattle.std.proofs.Common.{◌≡◌, ℕ, suc, ◌+◌, ◌-◌, ◌*◌, ◌/◌, ◌%◌, ◌<◌, ◌≤◌, Bool, ap, ◌∙◌, ⊎_elim, suc-mul, mul_comm, le-div_iff_mul-le, zero-mul, arith}
 use native.Mathlib.Nat.{div-add-mod, div-eq_of_lt-le}
 use Rattle.std.proofs.lemmas.Bool.{cases_lt}
 use Rattle.zombit.specs.Blocks.{blocks_of, in_block, bay_in}
@@ -35,22 +35,11 @@ block_in u β k b h =
     let up = suc-mul k β in
     (le-div_iff_mul-le {k = β} {x = suc k} {y = u + (β - 1)} b).1 (omega arith)
 
-pub block_of : (u β k : ℕ) → 1 ≤ β → k < blocks_of u β → k * β < u
+block_of : (u β k : ℕ) → 1 ≤ β → k < blocks_of u β → k * β < u
 block_of u β k b h =
     let up = suc-mul k β in
     let l = (le-div_iff_mul-le {k = β} {x = suc k} {y = u + (β - 1)} b).0 h in
     omega arith
-
-pub blocks_few : (u β : ℕ) → 1 ≤ β → blocks_of u β ≤ u
-blocks_few u β b = ⊎_elim
-    (λ l.
-    let h = block_of u β u b l in
-    let g = mul-le-mul_right u b in
-    let c = mul_comm u β in
-    let e : suc zero * u ≡ u = omega arith in
-    omega arith)
-    (λ g. g)
-    (cases_lt u (blocks_of u β))
 
 pub blocks_reach : (u β : ℕ) → 1 ≤ β → blocks_of u β * β ≤ u + β
 blocks_reach u β b = ⊎_elim

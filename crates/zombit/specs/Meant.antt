@@ -1,5 +1,5 @@
--- What an opened index says of its places, those of a short last block that lie past the last bay with them.
-use Rattle.std.specs.Prelude.{◌≡◌, ℕ, suc, ◌+◌, ◌-◌, ◌*◌, Bool, true, false, not, ◌&&◌, ◌⊎◌, Some, None, Option}
+-- What an opened index stands for, and what it says of its places, also of those of a short last block that lie past the last bay.
+use Rattle.std.specs.Prelude.{◌≡◌, ℕ, suc, ◌+◌, ◌-◌, ◌*◌, ◌<◌, ◌≤◌, Bool, true, false, not, ◌&&◌, ◌⊎◌, List, Some, None, Option}
 use Rattle.std.specs.Option.{option_map}
 use Rattle.sets.specs.declared.Sort.{Sort}
 use Rattle.sets.specs.declared.Sort.TheVariants.{Members, Others}
@@ -7,7 +7,7 @@ use Rattle.sets.specs.Made.{of_sort}
 use Rattle.sets.specs.Search.{first_from, last_to}
 use Rattle.bits.specs.Bits.{bit_at}
 use Rattle.bits.specs.Words.{at_most}
-use Rattle.zombit.specs.Blocks.{blocks_of, bits_before, bay_in}
+use Rattle.zombit.specs.Blocks.{blocks_of, bits_before, bay_in, set_of}
 use Rattle.zombit.specs.Lawful.{Place}
 use Rattle.zombit.specs.declared.index.Zombit.{Zombit}
 use Rattle.zombit.specs.declared.kind.Kind.{Kind}
@@ -21,6 +21,10 @@ O z = bit_at z.marked.now
 
 abbrev pub M : Zombit → ℕ → Bool
 M z = bit_at z.mixed.now
+
+-- the set that it stands for
+abbrev pub meaning : Zombit → List Bool
+meaning z = set_of z.blocks.last z.blocks.size z.uniform.now z.marked.now z.mixed.now
 
 -- how many blocks, and how many places they have
 abbrev pub blocks : Zombit → ℕ
@@ -41,22 +45,31 @@ abbrev pub block_has : Zombit → Sort → ℕ → Bool
 block_has z Members k = O z k
 block_has z Others k = not (U z k && O z k)
 
+-- block k is mixed
+abbrev pub MixedAt : Zombit → ℕ → Type 0
+MixedAt z k = U z (suc k) ≡ false
+
 -- what block k is to a sort: all of it, none of it, or mixed
 abbrev pub KindIs : Zombit → Sort → ℕ → Kind → Type 0
 KindIs z sort k All = (j : ℕ) → Place z.blocks.size j → sorted z sort (k * z.blocks.size + j) ≡ true
 KindIs z sort k Bare = (j : ℕ) → Place z.blocks.size j → sorted z sort (k * z.blocks.size + j) ≡ false
-KindIs z sort k Mixed = U z (suc k) ≡ false
+KindIs z sort k Mixed = MixedAt z k
 
 -- how many bits of M lie before those of block k
 abbrev pub before : Zombit → ℕ → ℕ
 before z k = bits_before z.blocks.size (U z) k
 
--- a place in block k: place at where all of the block is of the sort, none where none of it is, and where it is mixed that of what was found of M
+-- bit q of M is one of those of block k
+abbrev pub BitOf : Zombit → ℕ → ℕ → Type 0
+BitOf z k q = (before z k < q) × (q ≤ before z k + z.blocks.size)
+
+-- a place in block k: place at where all of the block is of the sort, none where none of it is, and where it is mixed the place of the
+-- bit that was found in M
 abbrev pub InBlock : Zombit → Sort → ℕ → ℕ → (Option ℕ → Type 0) → Option ℕ → Type 0
 InBlock z sort k at Found r =
     (KindIs z sort k All × (r ≡ Some (k * z.blocks.size + at)))
     ⊎ ((KindIs z sort k Bare × (r ≡ None))
-    ⊎ ((U z (suc k) ≡ false) × (bit : Option ℕ) × Found bit × (r ≡ option_map (λ q. k * z.blocks.size + (q - before z k)) bit)))
+    ⊎ (MixedAt z k × (bit : Option ℕ) × Found bit × (r ≡ option_map (λ q. k * z.blocks.size + (q - before z k)) bit)))
 
 -- the first place of the sort from p on
 abbrev pub first_place : Zombit → Sort → ℕ → Option ℕ

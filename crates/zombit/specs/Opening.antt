@@ -1,5 +1,5 @@
--- What opening a zombit index answers.
-use Rattle.std.specs.Prelude.{ℕ, suc, ◌+◌, ◌-◌, ◌*◌, Bool, cond, not, ◌&&◌, List, is_some, Ok, nat_lt}
+-- What opening a zombit index answers, and what it then has.
+use Rattle.std.specs.Prelude.{◌≡◌, ℕ, suc, ◌+◌, ◌-◌, ◌*◌, Bool, cond, not, ◌&&◌, List, is_some, Ok, nat_lt}
 use Rattle.faults.specs.Checks.{Check, Verdict, range_check, last_check, located, first_of, none_found, Needs, Accepted}
 use Rattle.faults.specs.declared.fault.Flaw as flaws
 use Rattle.faults.specs.declared.fault.Form as forms
@@ -9,6 +9,8 @@ use Rattle.bits.specs.Bits.{bit_at}
 use Rattle.bits.specs.Checks.{Whole, Clear, length_check, spare_check}
 use Rattle.zombit.specs.Blocks.{blocks_of, bits_before}
 use Rattle.zombit.specs.Lawful.{BlockSize, LawfulO, LawfulM}
+use Rattle.zombit.specs.declared.index.Zombit.{Zombit}
+use Rattle.zombit.specs.declared.source.ZombitSource.{ZombitSource}
 
 abbrev pub size_check : ℕ → Check
 size_check β = range_check flaws.TheVariants.BlockSize 2 4096 β
@@ -70,3 +72,9 @@ OpeningIs u β us os ms =
     (Needs forms.TheVariants.Zombit 3 3 (Clear (mixed_bits u β us) ms)
     (Needs forms.TheVariants.Zombit 6 2 (LawfulO u β (bit_at us) (bit_at os))
     (Needs forms.TheVariants.Zombit 6 3 (LawfulM u β (bit_at us) (bit_at ms)) Accepted)))))))))
+
+-- an index has exactly the numbers and the parts of a source
+abbrev pub Holds : Zombit → ZombitSource → Type 0
+Holds z s =
+    (z.blocks.last ≡ s.last) × (z.blocks.size ≡ s.size) × (z.uniform.now ≡ s.uniform.now) × (z.marked.now ≡ s.marked.now)
+    × (z.mixed.now ≡ s.mixed.now)

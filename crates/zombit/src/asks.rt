@@ -1,7 +1,6 @@
 // The six questions, asked of the blocks.
 ghost use Rattle.sets.specs.Made.{made_sized};
-ghost use Rattle.zombit.specs.Blocks.{set_of};
-ghost use Rattle.zombit.specs.Meant.{bays};
+ghost use Rattle.zombit.specs.Meant.{bays, meaning};
 
 use super::blocks::Spot;
 use super::index::Zombit;
@@ -9,7 +8,7 @@ use super::kind::Kind;
 use sets::{Counting, Sort, Walking};
 
 impl<'a> Walking for Zombit<'a> {
-    ghost meant = { λ z. set_of z.blocks.last z.blocks.size z.uniform.now z.marked.now z.mixed.now };
+    ghost meant = { meaning };
 
     ghost sized = { λ z. made_sized z.blocks.last (bays z) z.blocks.sized };
 

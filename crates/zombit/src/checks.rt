@@ -18,14 +18,14 @@ pub(crate) fn check_size(size: u32) -> Result<(), Flaw>
 
 // Whether block `k`, from 0, has the wrong bit in `marked`.
 fn is_wrong_mark(blocks: Blocks, uniform: &[u8], marked: &[u8], k: u32) -> bool
-    requires few { k < 65535 }
+    requires block { k < blocks_of blocks.last blocks.size }
     requires uniform { k < 8 * length uniform.now }
     requires marked { k < 8 * length marked.now }
     ensures { result ≡ wrong_mark blocks.last blocks.size (bit_at uniform.now) (bit_at marked.now) k }
 {
     let mark = bits::get(marked, k + 1);
     if bits::get(uniform, k + 1) {
-        mark && k * blocks.size + blocks.size > blocks.last
+        mark && blocks.place(k, blocks.size) > blocks.last
     } else {
         !mark
     }

@@ -2,7 +2,8 @@
 ghost use Rattle.std.specs.Prelude.{◌≡◌, false, [], ◌∷◌};
 ghost use Rattle.zombit.specs.Blocks.{set_of};
 ghost use Rattle.zombit.specs.Decoding.{Decodes};
-ghost use Rattle.zombit.specs.Opening.{opening, OpeningIs};
+ghost use Rattle.zombit.specs.Opening.{opening, OpeningIs, Holds};
+ghost use Rattle.zombit.specs.Meant.{meaning};
 
 use super::blocks::Blocks;
 use super::checks::{check_marks, check_mixes, check_size};
@@ -26,7 +27,7 @@ impl<'a> Zombit<'a> {
         ensures uniform { result.uniform.now ≡ 1 ∷ [] }
         ensures marked { result.marked.now ≡ 0 ∷ [] }
         ensures mixed { result.mixed.now ≡ [] }
-        ensures means { set_of result.blocks.last result.blocks.size result.uniform.now result.marked.now result.mixed.now ≡ false ∷ [] }
+        ensures means { meaning result ≡ false ∷ [] }
     {
         Zombit {
             blocks: Blocks { last: 1, size: 2 },
@@ -74,7 +75,7 @@ impl<'a> Opens for Zombit<'a> {
 
     ghost decodes = { λ s. Decodes s.last s.size s.uniform.now s.marked.now s.mixed.now };
 
-    ghost holding = { λ z s. (z.blocks.last ≡ s.last) × (z.blocks.size ≡ s.size) × (z.uniform.now ≡ s.uniform.now) × (z.marked.now ≡ s.marked.now) × (z.mixed.now ≡ s.mixed.now) };
+    ghost holding = { Holds };
 
     fn open(&mut self, source: ZombitSource<'a>) -> Result<(), Fault> {
         check_all(&source)?;

@@ -40,6 +40,7 @@ impl<'a> Zombit<'a> {
         let marked = bits::next(self.marked, sort, from, last);
         match sort {
             Sort::Members => marked,
+            // A non-member also lies in a mixed block, which is marked.
             Sort::Others => {
                 bits::next(self.uniform, sort, from, marked.unwrap_or(last)).or(marked)
             }
@@ -54,6 +55,7 @@ impl<'a> Zombit<'a> {
         let marked = bits::previous(self.marked, sort, to);
         match sort {
             Sort::Members => marked,
+            // A non-member also lies in a mixed block, which is marked.
             Sort::Others => bits::previous(self.uniform, sort, to).max(marked),
         }
     }

@@ -4,8 +4,7 @@ use Rattle.sets.specs.declared.Sort.TheVariants.{Members}
 use Rattle.sets.specs.Sets.{is_member}
 use Rattle.sets.proofs.Bays.{is_none}
 use Rattle.sets.proofs.Made.{made_is, made_outside}
-use Rattle.zombit.specs.Blocks.{set_of}
-use Rattle.zombit.specs.Meant.{M, bays}
+use Rattle.zombit.specs.Meant.{meaning, M, bays}
 use Rattle.zombit.specs.declared.index.Zombit.{Zombit}
 use Rattle.zombit.proofs.Indexed.{bits_within, bay_mixed}
 use Rattle.zombit.proofs.asks.ZombitWalking.holds.Goals as goal
@@ -20,7 +19,7 @@ returns-then-i-eq0 c =
     ]
 
 at_spot : (z : Zombit) (i k at : ℕ) (b : Bool) → 1 ≤ i → i ≤ z.blocks.last → k * z.blocks.size + at ≡ i → b ≡ bays z (k * z.blocks.size + at)
-    → b ≡ is_member (set_of z.blocks.last z.blocks.size z.uniform.now z.marked.now z.mixed.now) i
+    → b ≡ is_member (meaning z) i
 at_spot z i k at b low high e h = h ∙ ap (bays z) e ∙ sym (made_is z.blocks.last (bays z) Members i low high)
 
 pub get-requires : goal.get-requires

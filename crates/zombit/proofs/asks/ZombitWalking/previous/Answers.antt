@@ -4,13 +4,12 @@ use Rattle.sets.specs.declared.Sort.{Sort}
 use Rattle.sets.specs.Search.{last_to}
 use Rattle.sets.specs.Sets.{previous_of}
 use Rattle.sets.proofs.Made.{made_previous}
-use Rattle.zombit.specs.Blocks.{set_of}
-use Rattle.zombit.specs.Meant.{bays, sorted}
+use Rattle.zombit.specs.Meant.{meaning, bays, sorted}
 use Rattle.zombit.specs.declared.index.Zombit.{Zombit}
 use Rattle.zombit.proofs.asks.ZombitWalking.previous.Goals as goal
 
 to_last : (z : Zombit) (sort : Sort) (i p : ℕ) (r : Option ℕ) → p ≡ min i z.blocks.last → last_to (sorted z sort) p ≡ r
-    → r ≡ previous_of (set_of z.blocks.last z.blocks.size z.uniform.now z.marked.now z.mixed.now) sort i
+    → r ≡ previous_of (meaning z) sort i
 to_last z sort i p r e h = sym h ∙ ap (last_to (sorted z sort)) e ∙ made_previous z.blocks.last (bays z) sort i
 
 none_yet : (z : Zombit) (sort : Sort) (p : ℕ) → p ≡ 0 → last_to (sorted z sort) p ≡ None

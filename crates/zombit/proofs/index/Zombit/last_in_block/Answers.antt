@@ -11,8 +11,8 @@ place_in_block-requires-clause-callable c = λ mixed.
     search rules
 
 pub place_in_block-requires-clause-inside : goal.place_in_block-requires-clause-inside
-place_in_block-requires-clause-inside c = λ bit mixed found.
-    last_inside c.args.self.now c.args.sort c.args.k c.args.at (c.requires.first, c.requires.end) bit (search rules) (search rules)
+place_in_block-requires-clause-inside c = λ q mixed found.
+    last_inside c.args.self.now c.args.sort c.args.k c.args.at (c.requires.first, c.requires.end) q (search rules) (search rules)
 
 pub returns : goal.returns
 returns c =

@@ -1,27 +1,27 @@
 -- What is left to show of `Zombit::nth_in_block`.
-use Rattle.std.proofs.Common.{◌-◌, arith, rules}
+use Rattle.std.proofs.Common.{rules}
 use Rattle.zombit.proofs.Counted.{left_few, nth_inside, nth_in}
 use Rattle.zombit.proofs.Indexed.{bits_within, small_mixed}
 use Rattle.zombit.proofs.index.Zombit.nth_in_block.Goals as goal
 
 pub place_in_block-requires-clause-end : goal.place_in_block-requires-clause-end
 place_in_block-requires-clause-end c =
-    left_few c.args.self.now c.args.sort c.args.k c.args.n (c.args.n - c.count_before.result) c.requires.block c.requires.before c.requires.reached (omega (arith, c.count_before.ensures, c.requires.before))
+    left_few c.args.self.now c.args.sort c.args.k c.args.n _ c.requires.block c.requires.before c.requires.reached c.count_before.ensures
 
 pub place_in_block-requires-clause-callable : goal.place_in_block-requires-clause-callable
 place_in_block-requires-clause-callable c = λ mixed.
-    let within = bits_within c.args.self.now _ c.requires.block mixed in
-    let small = small_mixed c.args.self.now in
-    let size = c.args.self.now.blocks.blocked.1 in
-    let few = left_few c.args.self.now c.args.sort c.args.k c.args.n (c.args.n - c.count_before.result) c.requires.block c.requires.before c.requires.reached (omega (arith, c.count_before.ensures, c.requires.before)) in
+    let z = c.args.self.now in
+    let within = bits_within z _ c.requires.block mixed in
+    let small = small_mixed z in
+    let size = z.blocks.blocked.1 in
+    let few = left_few z c.args.sort c.args.k c.args.n _ c.requires.block c.requires.before c.requires.reached c.count_before.ensures in
     search rules
 
 pub place_in_block-requires-clause-inside : goal.place_in_block-requires-clause-inside
-place_in_block-requires-clause-inside c = λ bit mixed found.
-    nth_inside c.args.self.now c.args.sort c.args.k c.args.n (c.args.n - c.count_before.result) c.requires.block c.requires.before c.requires.reached (omega (arith, c.count_before.ensures, c.requires.before))
-    bit (search rules)
+place_in_block-requires-clause-inside c = λ q mixed found.
+    nth_inside c.args.self.now c.args.sort c.args.k c.args.n _ c.requires.block c.requires.before c.requires.reached c.count_before.ensures q (search rules)
 
 pub returns : goal.returns
 returns c =
-    nth_in c.args.self.now c.args.sort c.args.k c.args.n (c.args.n - c.count_before.result) c.requires.block c.requires.before c.requires.reached (omega (arith, c.count_before.ensures, c.requires.before))
+    nth_in c.args.self.now c.args.sort c.args.k c.args.n _ c.requires.block c.requires.before c.requires.reached c.count_before.ensures
     _ (λ b found. search rules) _ c.place_in_block.ensures
