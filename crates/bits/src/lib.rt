@@ -1,6 +1,6 @@
-// Bitvectors in bytes. A bitvector is a set of numbers, of which its ones are the members: one bit, the next and the previous bit of a
-// sort, how many ones, the k-th bit of a sort, and the checks of the bytes. These are leaves for the forms of an index: they ask for
-// bit numbers within the bytes, and the checks for at most 131,072 bits.
+// Bitvectors in bytes. A bitvector is a set of numbers, of which its ones are the members: one bit, the next and the previous bit
+// of a sort, how many ones, the k-th bit of a sort, and the checks of the bytes. These are leaves for the forms of an index: they
+// ask for bit numbers within the bytes, and the checks for at most 131,072 bits.
 #![tactic(auto)]
 
 mod checks;

@@ -1,8 +1,8 @@
 // Halving a range of numbers, of which the first ones pass a test and those behind them do not.
 ghost use Rattle.std.specs.Prelude.{◌≡◌, ◌-◌, ◌<◌, ◌≤◌, ◌⊎◌, true, false};
 
-/// The first number from `low` on that does not pass, or `high` where all below it pass, found by halves: what is told of it are the
-/// numbers on either side of it.
+/// The first number from `low` on that does not pass, or `high` where all below it pass, found by halves: what is told of it are
+/// the numbers on either side of it.
 pub fn partition_point<F: Fn(u32) -> bool>(low: u32, high: u32, passes: F) -> u32
     requires order { low ≤ high }
     requires callable { (n : _) → low ≤ n → n < high → F.pre passes n }
