@@ -36,7 +36,7 @@ fn padded(bytes: &[u8]) -> [u8; 8]
     eight
 }
 
-// The same where at most 8 bytes are left: the bits past the last byte are 0.
+// The 64 bits from byte `j` on, where at most 8 bytes are left: the bits past the last byte are 0.
 fn last_word(bytes: &[u8], j: usize) -> u64
     requires within { j ≤ length bytes.now }
     requires short { length bytes.now ≤ j + 8 }

@@ -1,4 +1,4 @@
-// The number by which a flaw is refused.
+// The number by which a flaw is refused. A file of its own, so that an edit can name its one line.
 ghost use Rattle.std.specs.Prelude.{◌≡◌};
 ghost use Rattle.faults.specs.Numbers.{flaw_number};
 

@@ -4,8 +4,8 @@ ghost use Rattle.faults.specs.Checks.{Check, located};
 
 use super::fault::{Fault, Flaw, Form};
 
-/// Says of a check to which part of which form it belongs. A trait, since each check of each form ends in it: `map_err` over a
-/// closure would say no more and take a line more each time.
+/// Says of a check to which part of which form it belongs. A trait, since every check of a form ends in it: `.at(form, part)` is
+/// plainer there than `map_err` over a closure.
 pub trait Located: Sized {
     // What the check answered.
     ghost answered: { Self → Check };

@@ -1,4 +1,4 @@
-// The number of a refusal.
+// The number of a refusal. A file of its own, so that an edit can name its one line.
 ghost use Rattle.std.specs.Prelude.{◌≡◌};
 ghost use Rattle.faults.specs.Numbers.{refusal_number};
 

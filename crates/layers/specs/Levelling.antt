@@ -18,9 +18,9 @@ levelling below u a b =
     (Err (below, NoBay))
 
 -- a level is its set and its two bays, and no more
-abbrev pub answered : {S : Type 0} {m : _} → Result (Level S m) (S × Refusal) → Levelled S
-answered (Ok x) = Ok (x.below, x.first, x.last)
-answered (Err e) = Err e
+abbrev pub in_parts : {S : Type 0} {m : _} → Result (Level S m) (S × Refusal) → Levelled S
+in_parts (Ok x) = Ok (x.below, x.first, x.last)
+in_parts (Err e) = Err e
 
 -- which refusal comes for which reason, with the very set; and else the level is over that set and stands for its bays a to b
 abbrev pub LevellingIs : {S : Type 0} {m : _} → (S → List Bool) → S → ℕ → ℕ → Result (Level S m) (S × Refusal) → Type 0

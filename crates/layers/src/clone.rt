@@ -1,5 +1,5 @@
-// Cloning a level, by hand since no derive takes a ghost field. A clone of the set beneath may have fewer bays, so the level's are
-// cut to them.
+// Cloning a level, by hand since a `Clone` that is no copy is not derived over a ghost field. A clone of the set beneath may have
+// fewer bays, so the level's are cut to them.
 ghost use Rattle.layers.specs.Layers.{IsCut};
 
 use super::level::Level;

@@ -21,7 +21,7 @@ impl<S: Counting> Turned<S> {
         Turned { below }
     }
 
-    /// The set beneath.
+    /// The set beneath. Written here and at `Level`: a trait for both would still hold two bodies.
     pub fn into_below(self) -> S
         ensures { result ≡ self.below }
     {

@@ -6,7 +6,8 @@ ghost use Rattle.opening.specs.Places.{Placed};
 use faults::Fault;
 use sets::Counting;
 
-/// An index of one form, which opening puts in the place of an open one.
+/// An index of one form, which opening puts in the place of an open one. The first is the form's own `empty()`, since what it is
+/// made of differs from form to form.
 pub trait Opens: Counting + Copy {
     /// What an index is opened from: the numbers and the parts of its form.
     type Source: Copy;

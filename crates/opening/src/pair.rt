@@ -16,7 +16,9 @@ pub fn open_pair<X: Opens>(
     ensures answer { result ≡ pairing (X.Opens.verdict f_source) (X.Opens.verdict c_source) }
     ensures law { PairingIs (X.Opens.verdict f_source) (X.Opens.verdict c_source) result }
     ensures place { Placed result (X.Opens.holding f.new f_source × X.Opens.holding c.new c_source) ((f.new ≡ f.old) × (c.new ≡ c.old)) }
-    ensures means { Placed result ((X.Walking.meant f.new ≡ X.Opens.decoding f_source) × (X.Walking.meant c.new ≡ X.Opens.decoding c_source)) ((f.new ≡ f.old) × (c.new ≡ c.old)) }
+    ensures means { Placed result
+        ((X.Walking.meant f.new ≡ X.Opens.decoding f_source) × (X.Walking.meant c.new ≡ X.Opens.decoding c_source))
+        ((f.new ≡ f.old) × (c.new ≡ c.old)) }
 {
     let mut new_f = *f;
     new_f.open(f_source).map_err(|fault| Side::F.of(fault))?;

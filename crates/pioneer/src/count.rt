@@ -13,6 +13,7 @@ impl<'a> Pioneer<'a> {
         ensures value { result ≡ count_to (member_of self.now) i }
         ensures bound { result ≤ i }
     {
+        // A match: with `map_or` over a closure, the differences in it were not proved to fit.
         match self.begun(i) {
             Some(run) => run.before + (i - run.start + 1).min(run.length),
             None => 0,

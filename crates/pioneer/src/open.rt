@@ -34,10 +34,16 @@ impl<'a> Pioneer<'a> {
 }
 
 // Checks the numbers and the parts, in the order of the refusals.
-fn check_all(last: u32, count: u32, starts: &[u8], sums: &[u8]) -> Result<(), Fault>
-    ensures answer { result ≡ opening last count starts.now sums.now }
-    ensures law { OpeningIs last count starts.now sums.now result }
+fn check_all(source: &PioneerSource) -> Result<(), Fault>
+    ensures answer { result ≡ opening source.now.last source.now.count source.now.starts.now source.now.sums.now }
+    ensures law { OpeningIs source.now.last source.now.count source.now.starts.now source.now.sums.now result }
 {
+    let PioneerSource {
+        last,
+        count,
+        starts,
+        sums,
+    } = *source;
     check_last(last).at(Form::Pioneer, 0)?;
     check_range(count, 0, last, Flaw::Numbers).at(Form::Pioneer, 0)?;
     check_length(starts, last).at(Form::Pioneer, 1)?;
@@ -61,13 +67,13 @@ impl<'a> Opens for Pioneer<'a> {
     ghost holding = { λ p s. (p.last ≡ s.last) × (p.count ≡ s.count) × (p.starts.now ≡ s.starts.now) × (p.sums.now ≡ s.sums.now) };
 
     fn open(&mut self, source: PioneerSource<'a>) -> Result<(), Fault> {
+        check_all(&source)?;
         let PioneerSource {
             last,
             count,
             starts,
             sums,
         } = source;
-        check_all(last, count, starts, sums)?;
         *self = Pioneer {
             last,
             count,

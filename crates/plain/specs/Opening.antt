@@ -1,4 +1,4 @@
--- What opening a plain index answers, and what stands afterwards.
+-- What opening a plain index answers.
 use Rattle.std.specs.Prelude.{ℕ, ◌⊎◌, List, Ok, Err}
 use Rattle.faults.specs.Checks.{Verdict, last_check, located, first_of}
 use Rattle.faults.specs.Numbers.{FaultBy}

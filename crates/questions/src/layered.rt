@@ -52,6 +52,14 @@ fn a_set_turned(rt: HostRuntime) -> Result<(), Fail> {
     questions(&rt, &Turned::new(free).into_below(), &ROW)
 }
 
+// A level over an index by value, and a level over that one.
+#[test]
+fn a_level_by_value(rt: HostRuntime) -> Result<(), Fail> {
+    let free = opened(&rt, 16, &FREE);
+    levels(&rt, free, &ROW, 3, 16)?;
+    level_of_level(&rt, free, (3, 16), (2, 9))
+}
+
 #[test]
 fn each_level_of_each_layer(rt: HostRuntime) -> Result<(), Fail> {
     let free = opened(&rt, 16, &FREE);

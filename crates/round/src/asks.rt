@@ -6,7 +6,7 @@ ghost use Rattle.round.specs.Rounds.{free_of, last_bay};
 
 use super::posts::post_of;
 use super::state::Round;
-use faults::Refusal;
+use faults::{Refusal, check_bays};
 use sets::{Counting, Sort, Walking};
 
 // Of a bay at or below `p` and one at or above it the nearer, and at equal distance the lower.
@@ -25,12 +25,7 @@ impl<F: Counting, C: Walking> Round<F, C> {
         ensures answer { result ≡ count_in (free_of self.now) (last_bay self.now) a b }
         ensures law { CountIs (free_of self.now) (last_bay self.now) a b result }
     {
-        if a == 0 || a > b {
-            return Err(Refusal::NoBay);
-        }
-        if b > self.last_bay() {
-            return Err(Refusal::Beyond);
-        }
+        check_bays(a, b, self.last_bay())?;
         let before = self.free.rank(Sort::Members, a - 1);
         Ok(self.free.rank(Sort::Members, b) - before)
     }
@@ -40,13 +35,8 @@ impl<F: Counting, C: Walking> Round<F, C> {
         ensures answer { result ≡ nearest_at (free_of self.now) (last_bay self.now) p }
         ensures law { NearestIs (free_of self.now) (last_bay self.now) p result }
     {
-        if p == 0 {
-            return Err(Refusal::NoBay);
-        }
         let w = self.last_bay();
-        if p > w {
-            return Err(Refusal::Beyond);
-        }
+        check_bays(p, p, w)?;
         let below = self.free.previous(Sort::Members, p);
         let above = self.free.next(Sort::Members, p).filter(|bay| *bay <= w);
         Ok(nearer_of(p, below, above))

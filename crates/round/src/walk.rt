@@ -24,7 +24,8 @@ impl<F: Counting, C: Walking> Round<F, C> {
         self.free.last().min(self.class.last())
     }
 
-    // The larger of the next members at `p` in a round that ends at `w`; none, or one beyond `w`, is read as w + 1.
+    // The larger of the next members at `p` in a round that ends at `w`, which a walk asks once; none, or one beyond `w`, is read
+    // as w + 1.
     fn stretch_end(&self, w: u32, p: u32) -> u32
         requires { w ≡ last_bay self.now }
         ensures { result ≡ larger (free_of self.now) (class_of self.now) p }

@@ -1,8 +1,8 @@
 // Halving a range of numbers, of which the first ones pass a test and those behind them do not.
 ghost use Rattle.std.specs.Prelude.{◌≡◌, ◌-◌, ◌<◌, ◌≤◌, ◌⊎◌, true, false};
 
-/// The first number from `low` on that does not pass, or `high` where all below it pass, found by halves: what is told of it are
-/// the numbers on either side of it.
+/// A number from `low` to `high` that does not pass, though the one before it does, or an end of the range; found by halves. Where
+/// all that pass come first, it is the first that does not.
 pub fn partition_point<F: Fn(u32) -> bool>(low: u32, high: u32, passes: F) -> u32
     requires order { low ≤ high }
     requires callable { (n : _) → low ≤ n → n < high → F.pre passes n }

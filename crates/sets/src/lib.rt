@@ -1,4 +1,4 @@
-// What a set of parking bays is, and the two interfaces by which one is asked.
+// What a set of parking bays is, and the two interfaces by which one is asked. Beside them, the halving of a range by a test.
 #![tactic(auto)]
 
 ghost use Rattle.std.specs.Prelude.{◌≡◌, Bool, List, length};

@@ -1,10 +1,11 @@
 // Opening a pair of each form: each side damaged in turn, and what the two indexes are then.
 use super::openings::{old, opened};
+use super::plain_form::source;
 use faults::{Fault, Flaw, Form};
 use list::{List, ListSource};
 use opening::{Opens, PairFault, Side, open_pair};
 use pioneer::{Pioneer, PioneerSource};
-use plain::{Plain, PlainSource};
+use plain::Plain;
 use sets::Walking;
 use std::process::Abort;
 use zombit::{Zombit, ZombitSource};
@@ -28,10 +29,6 @@ fn open_over<X: Opens + PartialEq>(
     assert_eq!(rt; open_pair(&mut f, &mut c, sources.0, sources.1), due);
     assert!(rt; due.is_ok() || f == old.0 && c == old.1);
     (f, c)
-}
-
-fn source<'a>(last: u32, bits: &'a [u8]) -> PlainSource<'a> {
-    PlainSource { last, bits }
 }
 
 #[test]

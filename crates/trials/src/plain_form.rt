@@ -5,7 +5,7 @@ use plain::{Plain, PlainSource};
 use sets::Walking;
 use std::process::Abort;
 
-fn source<'a>(last: u32, bits: &'a [u8]) -> PlainSource<'a> {
+pub(crate) fn source<'a>(last: u32, bits: &'a [u8]) -> PlainSource<'a> {
     PlainSource { last, bits }
 }
 

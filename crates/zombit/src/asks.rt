@@ -41,7 +41,7 @@ impl<'a> Walking for Zombit<'a> {
             return None;
         }
         let Spot { block, at } = self.blocks.spot(to);
-        // A match, since `or_else` tells the proof nothing of a closure over the whole index.
+        // A match: with `or_else` over a closure that asks the whole index, the proof of what is returned did not close.
         match self.last_in_block(sort, block, at) {
             Some(bay) => Some(bay),
             None => self.last_to_block(sort, block),

@@ -45,7 +45,7 @@ impl<'a> Zombit<'a> {
         ensures { result ≡ first_place self.now sort i }
     {
         let Spot { block, at } = self.blocks.spot(i);
-        // A match, since `or_else` tells the proof nothing of a closure over the whole index.
+        // A match: with `or_else` over a closure that asks the whole index, the proof of what is returned did not close.
         match self.first_in_block(sort, block, at) {
             Some(bay) => Some(bay),
             None => self.first_from_block(sort, block + 1),

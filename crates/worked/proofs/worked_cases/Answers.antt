@@ -15,4 +15,4 @@ use Rattle.worked.proofs.worked_cases.Goals as goal
 
 pub returns : goal.returns
 unfolding bit_at first_from last_to count_to kth_to is next_of previous_of rank_of select_of set_by is_among rises bay_in place_of in_run common larger walk next_from sheet_from play
-returns c = ((refl, refl), ((refl, refl), ((refl, refl), ((refl, refl), ((refl, refl), ((refl, refl), ((refl, refl), ((refl, refl), (refl, (refl, (refl, (refl, (refl, (refl, (refl, (refl, (refl, (refl, (refl, (refl, (refl, (refl, ((refl, refl), ((refl, refl), ((refl, refl), (refl, tt))))))))))))))))))))))))))
+returns c = search refl

@@ -3,5 +3,5 @@ use Rattle.std.proofs.Common.{rules}
 use Rattle.layers.proofs.Levels.{level_by}
 use Rattle.layers.proofs.level.Level.new.Goals as goal
 
-pub returns-clause-law : goal.returns-clause-law
-returns-clause-law g c = search (rules, level_by)
+pub returns-in-Ok-clause-law : goal.returns-in-Ok-clause-law
+returns-in-Ok-clause-law g c = search (rules, level_by)

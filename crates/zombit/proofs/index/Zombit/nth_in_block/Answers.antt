@@ -1,12 +1,12 @@
 -- What is left to show of `Zombit::nth_in_block`.
-use Rattle.std.proofs.Common.{rules}
+use Rattle.std.proofs.Common.{arith, rules}
 use Rattle.zombit.proofs.Counted.{left_few, nth_inside, nth_in}
 use Rattle.zombit.proofs.Indexed.{bits_within, small_mixed}
 use Rattle.zombit.proofs.index.Zombit.nth_in_block.Goals as goal
 
 pub place_in_block-requires-clause-end : goal.place_in_block-requires-clause-end
 place_in_block-requires-clause-end c =
-    left_few c.args.self.now c.args.sort c.args.k c.args.n _ c.requires.block c.requires.before c.requires.reached c.count_before.ensures
+    omega (arith, left_few c.args.self.now c.args.sort c.args.k c.args.n _ c.requires.block c.requires.before c.requires.reached c.count_before.ensures)
 
 pub place_in_block-requires-clause-callable : goal.place_in_block-requires-clause-callable
 place_in_block-requires-clause-callable c = λ mixed.
