@@ -9,7 +9,7 @@ use Rattle.sets.proofs.Tests.{KthIs, kth_law, kth_by, count_none, count_here, co
 use Rattle.bits.specs.Bits.{is_bit}
 use Rattle.zombit.specs.Blocks.{mixed_before, bits_before}
 use Rattle.zombit.specs.Lawful.{Place}
-use Rattle.zombit.specs.Meant.{U, O, M, blocks, places, bays, sorted, before, MixedAt, BitOf, KindIs, InBlock, cut_at}
+use Rattle.zombit.specs.Meant.{U, O, M, blocks, places, bays, sorted, bits_before_block, MixedAt, BitOf, KindIs, InBlock, cut_at}
 use Rattle.zombit.specs.declared.index.Zombit.{Zombit}
 use Rattle.zombit.specs.declared.kind.Kind.TheVariants.{All, Bare}
 use Rattle.zombit.proofs.Found.{as_bit}
@@ -165,7 +165,7 @@ module _ (z : Zombit) where
       bits = is_bit z.mixed.now sort
 
       abbrev a : ℕ
-      a = before z k
+      a = bits_before_block z k
 
       part_bits : MixedAt z k → (j : ℕ) → j ≤ β → count_to f (k * β + j) + count_to bits a ≡ count_to bits (a + j) + count_to f (k * β)
       part_bits mix j l = count_along f bits (k * β) a j (λ i b c. as_bit z sort k mix i (b, omega arith))
@@ -196,7 +196,7 @@ module _ (z : Zombit) where
 
   -- ---- the members up to place at of block k
 
-  module _ (k at full bits : ℕ) (h : k < blocks z) (end : at ≤ β) (start : bits ≡ before z k) (sum : full + bits ≡ count_to (O z) k * β) where
+  module _ (k at full bits : ℕ) (h : k < blocks z) (end : at ≤ β) (start : bits ≡ bits_before_block z k) (sum : full + bits ≡ count_to (O z) k * β) where
     seen : full + count_to (M z) bits ≡ count_to (bays z) (k * β)
     seen = before_is k full bits (omega (arith, h)) start sum
 

@@ -9,7 +9,7 @@ use Rattle.sets.specs.Search.{first_from, last_to}
 use Rattle.sets.proofs.Tests.{FirstIs, LastIs, first_law, first_by, last_law, last_by}
 use Rattle.bits.specs.Bits.{is_bit}
 use Rattle.zombit.specs.Lawful.{Place}
-use Rattle.zombit.specs.Meant.{blocks, places, sorted, block_has, before, MixedAt, BitOf, KindIs, InBlock, first_place, FirstTo, LastAfter}
+use Rattle.zombit.specs.Meant.{blocks, places, sorted, block_has, bits_before_block, MixedAt, BitOf, KindIs, InBlock, first_place, FirstTo, LastAfter}
 use Rattle.zombit.specs.declared.index.Zombit.{Zombit}
 use Rattle.zombit.specs.declared.kind.Kind.TheVariants.{All, Bare}
 use Rattle.zombit.proofs.Indexed.{some_size, block_ends, bay_mixed, lacks_all, has_some}
@@ -53,7 +53,7 @@ module _ (z : Zombit) (sort : Sort) where
     bits = is_bit z.mixed.now sort
 
     abbrev a : ℕ
-    a = before z k
+    a = bits_before_block z k
 
     pub as_bit : MixedAt z k → (j : ℕ) → Place β j → sorted z sort (k * β + j) ≡ bits (a + j)
     as_bit n j p = ap (fits sort) (bay_mixed z k j p n)

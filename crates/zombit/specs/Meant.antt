@@ -56,12 +56,12 @@ KindIs z sort k Bare = (j : ℕ) → Place z.blocks.size j → sorted z sort (k 
 KindIs z sort k Mixed = MixedAt z k
 
 -- how many bits of M lie before those of block k
-abbrev pub before : Zombit → ℕ → ℕ
-before z k = bits_before z.blocks.size (U z) k
+abbrev pub bits_before_block : Zombit → ℕ → ℕ
+bits_before_block z k = bits_before z.blocks.size (U z) k
 
 -- bit q of M is one of those of block k
 abbrev pub BitOf : Zombit → ℕ → ℕ → Type 0
-BitOf z k q = (before z k < q) × (q ≤ before z k + z.blocks.size)
+BitOf z k q = (bits_before_block z k < q) × (q ≤ bits_before_block z k + z.blocks.size)
 
 -- a place in block k: place at where all of the block is of the sort, none where none of it is, and where it is mixed the place of the
 -- bit that was found in M
@@ -69,7 +69,7 @@ abbrev pub InBlock : Zombit → Sort → ℕ → ℕ → (Option ℕ → Type 0)
 InBlock z sort k at Found r =
     (KindIs z sort k All × (r ≡ Some (k * z.blocks.size + at)))
     ⊎ ((KindIs z sort k Bare × (r ≡ None))
-    ⊎ (MixedAt z k × (bit : Option ℕ) × Found bit × (r ≡ option_map (λ q. k * z.blocks.size + (q - before z k)) bit)))
+    ⊎ (MixedAt z k × (bit : Option ℕ) × Found bit × (r ≡ option_map (λ q. k * z.blocks.size + (q - bits_before_block z k)) bit)))
 
 -- the first place of the sort from p on
 abbrev pub first_place : Zombit → Sort → ℕ → Option ℕ

@@ -3,7 +3,7 @@ ghost use Rattle.std.specs.Prelude.{◌≡◌, ◌+◌, ◌*◌, ◌<◌, ◌≤
 ghost use Rattle.bits.specs.Bits.{bit_at};
 ghost use Rattle.sets.specs.Made.{of_sort};
 ghost use Rattle.sets.specs.Search.{count_to, kth_to};
-ghost use Rattle.zombit.specs.Meant.{O, before, blocks, places, bays, sorted};
+ghost use Rattle.zombit.specs.Meant.{O, bits_before_block, blocks, places, bays, sorted};
 
 use super::blocks::Spot;
 use super::index::Zombit;
@@ -30,7 +30,7 @@ impl<'a> Zombit<'a> {
     // What the first `k` blocks have.
     fn before(&self, k: u32) -> Before
         requires block { k ≤ blocks self.now }
-        ensures bits { result.bits ≡ before self.now k }
+        ensures bits { result.bits ≡ bits_before_block self.now k }
         ensures full { result.full + result.bits ≡ count_to (O self.now) k * self.now.blocks.size }
         ensures few { result.full + result.bits ≤ 69631 }
     {

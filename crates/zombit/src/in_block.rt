@@ -1,6 +1,6 @@
 // A place in one block.
 ghost use Rattle.std.specs.Prelude.{ℕ, ◌<◌, ◌≤◌, Some};
-ghost use Rattle.zombit.specs.Meant.{blocks, before, MixedAt, BitOf, InBlock};
+ghost use Rattle.zombit.specs.Meant.{blocks, bits_before_block, MixedAt, BitOf, InBlock};
 
 use super::index::Zombit;
 use super::kind::Kind;
@@ -18,9 +18,9 @@ impl<'a> Zombit<'a> {
     ) -> Option<u32>
         requires block { k < blocks self.now }
         requires end { at ≤ self.now.blocks.size }
-        requires callable { MixedAt self.now k → F.pre find (before self.now k) }
-        requires inside { (q : ℕ) → MixedAt self.now k → F.post find (before self.now k) (Some q) → BitOf self.now k q }
-        ensures { InBlock self.now sort k at (F.post find (before self.now k)) result }
+        requires callable { MixedAt self.now k → F.pre find (bits_before_block self.now k) }
+        requires inside { (q : ℕ) → MixedAt self.now k → F.post find (bits_before_block self.now k) (Some q) → BitOf self.now k q }
+        ensures { InBlock self.now sort k at (F.post find (bits_before_block self.now k)) result }
     {
         match self.kind(sort, k) {
             Kind::All => Some(self.blocks.place(k, at)),

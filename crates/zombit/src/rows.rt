@@ -1,7 +1,7 @@
 // What the rows of an index say of a block, and the next and the previous block that has a sort.
 ghost use Rattle.std.specs.Prelude.{◌≡◌, suc, ◌-◌, ◌<◌, ◌≤◌};
 ghost use Rattle.sets.specs.Search.{first_from, last_to};
-ghost use Rattle.zombit.specs.Meant.{blocks, before, block_has, KindIs};
+ghost use Rattle.zombit.specs.Meant.{blocks, bits_before_block, block_has, KindIs};
 
 use super::index::Zombit;
 use super::kind::Kind;
@@ -25,7 +25,7 @@ impl<'a> Zombit<'a> {
     // How many bits of the mixed row lie before those of block `k`.
     pub(crate) fn bits_before(&self, k: u32) -> u32
         requires block { k ≤ blocks self.now }
-        ensures value { result ≡ before self.now k }
+        ensures value { result ≡ bits_before_block self.now k }
         ensures few { result ≤ 69631 }
     {
         self.blocks.mixed_bits(self.uniform, k)
