@@ -1,13 +1,10 @@
 -- A call of next, in the words of the sets of a round that stood before.
-use Rattle.std.proofs.Common.{◌≡◌, ◌≤◌, Bool, List, ◌∙◌, arith}
-use Rattle.round.specs.declared.state.Report.{Report}
+use Rattle.std.proofs.Common.{◌≡◌, ◌∙◌}
 use Rattle.round.specs.declared.state.Round.{Round}
 use Rattle.round.specs.declared.state.Taken.{Taken}
 use Rattle.round.specs.Machine.{next_from}
 use Rattle.round.specs.Rounds.{free_of, class_of, walk_of, SameSets}
-use Rattle.round.specs.Standing.{Standing}
 use Rattle.round.specs.States.{after_next}
-use Rattle.sets.specs.Sets.{Sized}
 
 -- `here` has the sets of r, and a next gave t and left it as `on`
 pub record Nexted {X Y : Type 0} {x : _} {y : _} (r here on : Round X Y x y) (t : Taken) : Type 0 where
@@ -21,7 +18,3 @@ next_on {x = x} {y = y} r here on t same step state sets = record {
   state = state ∙ (λ i. after_next (x.meant (same.0 i)) (y.meant (same.1 i)) here.state);
   sets = (sets.0 ∙ same.0, sets.1 ∙ same.1);
 }
-
--- a place is at most one past the largest last bay that a set can have
-pub place_fits : (f c : List Bool) (s : Report) → Sized f → Standing f c s → s.place ≤ 65536
-place_fits f c s sized h = omega (arith, sized.1, h.1)
