@@ -8,7 +8,7 @@ use Rattle.round.specs.declared.state.Report.{Report}
 use Rattle.round.specs.declared.state.Taken.{Taken}
 use Rattle.round.specs.Handed.{HandedIs}
 use Rattle.round.specs.Machine.{end, common, next_from}
-use Rattle.round.specs.Sheets.{over}
+use Rattle.sets.specs.Lists.{over}
 use Rattle.round.specs.States.{fresh, handed_by, after_next}
 use Rattle.round.specs.Stretches.{Between, Fewest}
 use Rattle.round.proofs.Handing.{next_handed}

@@ -5,9 +5,9 @@ use Rattle.std.proofs.lemmas.List.{append-nil}
 use Rattle.round.specs.declared.state.Report.{Report}
 use Rattle.round.specs.declared.state.Taken.{Taken}
 use Rattle.round.specs.Machine.{next_from}
-use Rattle.round.specs.Sheets.{over}
+use Rattle.sets.specs.Lists.{over}
 use Rattle.round.specs.States.{after_next}
-use Rattle.round.proofs.Memory.{front_more, kept_more, is_over}
+use Rattle.sets.proofs.Memory.{front_more, kept_more, is_over}
 use Rattle.listing.specs.Listings.{Listing, before, onward, play, listed_of, written}
 
 -- rows that were taken before those of r

@@ -1,6 +1,6 @@
 // The rows of a round, as many as fit.
 ghost use Rattle.std.specs.Prelude.{◌≡◌, length};
-ghost use Rattle.round.specs.Sheets.{over};
+ghost use Rattle.sets.specs.Lists.{over};
 ghost use Rattle.round.specs.States.{fresh};
 ghost use Rattle.listing.specs.Listings.{CompleteIn, play, play_of, listed_of, written};
 

@@ -4,7 +4,6 @@ pub mod Greedy
 pub mod Handing
 pub mod Ways
 pub mod Made
-pub mod Memory
 pub mod Sheeting
 pub mod Taking
 pub mod Rounds

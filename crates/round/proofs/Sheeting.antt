@@ -3,8 +3,9 @@ use Rattle.std.proofs.Common.{◌≡◌, ℕ, suc, ◌+◌, ◌-◌, ◌<◌, �
 use Rattle.std.proofs.lemmas.List.{append-nil}
 use Rattle.round.specs.declared.state.Report.{Report}
 use Rattle.round.specs.Machine.{next_from}
-use Rattle.round.specs.Sheets.{Page, paged, sheet_from, over}
-use Rattle.round.proofs.Memory.{front_more, kept_more, is_over}
+use Rattle.round.specs.Sheets.{Page, paged, sheet_from}
+use Rattle.sets.specs.Lists.{over}
+use Rattle.sets.proofs.Memory.{front_more, kept_more, is_over}
 use Rattle.round.specs.States.{handed_by, after_next, after_sheet}
 
 -- bays and stretches before those of a page

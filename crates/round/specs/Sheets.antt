@@ -1,5 +1,5 @@
 -- A sheet: bays are taken as by next until its room is full or none is left.
-use Rattle.std.specs.Prelude.{ℕ, zero, suc, ◌+◌, Bool, List, [], ◌∷◌, ◌++◌, length, drop, Some, None, Option}
+use Rattle.std.specs.Prelude.{ℕ, zero, suc, ◌+◌, Bool, List, [], ◌∷◌, length, Some, None, Option}
 use Rattle.round.specs.declared.state.Written.{Written}
 use Rattle.round.specs.declared.walk.Walked.{Walked}
 use Rattle.round.specs.Machine.{next_from}
@@ -23,7 +23,3 @@ sheet_from f c (suc k) p = let w = next_from f c p in paged w.taken.bay w (sheet
 -- what a sheet tells of itself
 abbrev pub written_of : Page → Written
 written_of r = record { bays = length r.bays; stretches = r.stretches }
-
--- what is written stands at the front of the memory, and what lies behind is kept
-abbrev pub over : {A : Type 0} → List A → List A → List A
-over front memory = front ++ drop (length front) memory

@@ -4,9 +4,10 @@ ghost use Rattle.round.specs.Answers.{GoIs};
 ghost use Rattle.round.specs.Calls.{go_to};
 ghost use Rattle.round.specs.Handed.{HandedIs};
 ghost use Rattle.round.specs.Rounds.{free_of, class_of, last_bay, walk_of, page_of, Sheeted, SameSets, Passed};
-ghost use Rattle.round.specs.Sheets.{over, written_of};
+ghost use Rattle.round.specs.Sheets.{written_of};
 ghost use Rattle.round.specs.States.{fresh, after_next, after_sheet, after_go};
 ghost use Rattle.round.specs.Stretches.{Fewest};
+ghost use Rattle.sets.specs.Lists.{over};
 
 use super::state::{Report, Round, Taken, Written};
 use super::walk::Walked;

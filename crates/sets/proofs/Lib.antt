@@ -3,6 +3,7 @@ pub mod Tests
 pub mod Bays
 pub mod Lawful
 pub mod Joins
+pub mod Memory
 pub mod Ranks
 pub mod Same
 pub mod Only

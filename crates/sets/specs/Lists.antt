@@ -1,5 +1,5 @@
--- Lists of numbers, as the numbers that have a property.
-use Rattle.std.specs.Prelude.{◌≡◌, ℕ, suc, ◌≤◌, ◌⊎◌, List, [], ◌∷◌}
+-- Lists of numbers, as the numbers that have a property; and what is written to the front of a memory.
+use Rattle.std.specs.Prelude.{◌≡◌, ℕ, suc, ◌≤◌, ◌⊎◌, List, [], ◌∷◌, ◌++◌, length, drop}
 
 -- one of the list has the property
 abbrev pub Any : {A : Type 0} → (A → Type 0) → List A → Type 0
@@ -25,3 +25,7 @@ pub record ListOf (P : ℕ → Type 0) (xs : List ℕ) : Type 0 where
   pub rising : Rising 0 xs
   pub all : (j : ℕ) → P j → Among xs j
   pub only : (j : ℕ) → Among xs j → P j
+
+-- what is written stands at the front of the memory, and what lies behind is kept
+abbrev pub over : {A : Type 0} → List A → List A → List A
+over front memory = front ++ drop (length front) memory

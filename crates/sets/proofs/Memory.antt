@@ -1,7 +1,7 @@
 -- Memory that is written from the front on, one place after the other.
 use Rattle.std.proofs.Common.{◌≡◌, ℕ, ◌+◌, ◌<◌, ◌≤◌, List, [], ◌∷◌, ◌++◌, length, take, drop, set, sym, ap, ◌∙◌, add-one, arith, take-append-drop, length-take, drop-drop, take-suc-set}
 use Rattle.std.proofs.lemmas.List.{drop-set-lt}
-use Rattle.round.specs.Sheets.{over}
+use Rattle.sets.specs.Lists.{over}
 
 module _ {A : Type 0} where
   pub front_more : (n : ℕ) (xs : List A) (x : A) → n < length xs → take n xs ++ (x ∷ []) ≡ take (n + 1) (set xs n x)
