@@ -1,0 +1,21 @@
+-- The forms to choose from, by what each says of a set, and by which of two memories its parts go to: one of bytes, and one of 16-bit numbers.
+use Rattle.filling.specs.Layouts.{Layout}
+use Rattle.forms.specs.declared.choice.Choice.{Choice}
+use Rattle.forms.specs.declared.choice.Choice.TheVariants.{Plain, List as Listed, Zombit, Pioneer}
+use Rattle.plain.specs.Filling.{plain_layout}
+use Rattle.list.specs.Filling.{list_layout}
+use Rattle.zombit.specs.Filling.{zombit_layout}
+use Rattle.pioneer.specs.Filling.{pioneer_layout}
+
+abbrev pub layout_of : Choice → Layout
+layout_of Plain = plain_layout
+layout_of Listed = list_layout
+layout_of (Zombit β) = zombit_layout β
+layout_of Pioneer = pioneer_layout
+
+-- the first for a form whose parts are bytes, the second for the one whose part is 16-bit numbers
+abbrev pub by_width : {A : Type 0} → Choice → A → A → A
+by_width Plain bytes numbers = bytes
+by_width Listed bytes numbers = numbers
+by_width (Zombit β) bytes numbers = bytes
+by_width Pioneer bytes numbers = bytes

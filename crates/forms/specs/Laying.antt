@@ -1,0 +1,48 @@
+-- What filling a set in a chosen form answers, and what it writes to the fronts of a memory of bytes and one of 16-bit numbers.
+use Rattle.std.specs.Prelude.{ℕ, Bool, List, [], length}
+use Rattle.std.specs.List.{concat}
+use Rattle.faults.specs.Checks.{Verdict, first_of, Needs}
+use Rattle.faults.specs.declared.fault.Form as forms
+use Rattle.filling.specs.Layouts.{lengths}
+use Rattle.filling.specs.Rooms.{filling}
+use Rattle.zombit.specs.Lawful.{BlockSize}
+use Rattle.forms.specs.declared.choice.Choice.{Choice}
+use Rattle.forms.specs.declared.choice.Choice.TheVariants.{Plain, List as Listed, Zombit, Pioneer}
+use Rattle.forms.specs.declared.told.Told.{Told}
+use Rattle.forms.specs.Choices.{layout_of, by_width}
+use Rattle.forms.specs.Cutting.{cuts, rooms_in, RoomsIn}
+use Rattle.forms.specs.Telling.{choice_told, lengths_told}
+
+-- the parts that are bytes, one behind the other, and those that are 16-bit numbers
+abbrev pub bytes_of : Choice → List Bool → List ℕ
+bytes_of x s = by_width x (concat ((layout_of x).parts s)) []
+
+abbrev pub numbers_of : Choice → List Bool → List ℕ
+numbers_of x s = by_width x [] (concat ((layout_of x).parts s))
+
+-- the memories of the parts, cut from the front of the memory of their width
+abbrev pub pieces : Choice → List Bool → List ℕ → List ℕ → List (List ℕ)
+pieces x s bytes numbers = cuts (lengths (layout_of x) s) (by_width x bytes numbers)
+
+-- what filling answers: measuring refuses first
+abbrev pub laying : Choice → List Bool → List ℕ → List ℕ → Verdict
+laying x s bytes numbers = first_of (layout_of x).measuring (filling (layout_of x).form ((layout_of x).parts s) (pieces x s bytes numbers))
+
+-- what must hold of the block size
+abbrev pub SizeNeeds : Choice → (Verdict → Type 0) → Verdict → Type 0
+SizeNeeds Plain rest = rest
+SizeNeeds Listed rest = rest
+SizeNeeds (Zombit β) rest = Needs forms.TheVariants.Zombit 4 0 (BlockSize β) rest
+SizeNeeds Pioneer rest = rest
+
+-- when which answer is due: there must be such a block size, and then room for each part behind those before it
+abbrev pub LayingIs : Choice → List Bool → List ℕ → List ℕ → Verdict → Type 0
+LayingIs x s bytes numbers =
+    SizeNeeds x (RoomsIn (layout_of x).form 1 0 (lengths (layout_of x) s) (by_width x (length bytes) (length numbers)))
+
+-- the first part told for which so many bytes, or 16-bit numbers, have no room
+abbrev pub rooms_told : Told → ℕ → ℕ → Verdict
+rooms_told t bytes numbers = rooms_in (layout_of (choice_told t)).form 1 (lengths_told t) (by_width (choice_told t) bytes numbers)
+
+abbrev pub RoomsTold : Told → ℕ → ℕ → Verdict → Type 0
+RoomsTold t bytes numbers = RoomsIn (layout_of (choice_told t)).form 1 0 (lengths_told t) (by_width (choice_told t) bytes numbers)

@@ -1,0 +1,9 @@
+-- The definitions of this crate.
+pub mod Choices
+pub mod Verdicts
+pub mod Telling
+pub mod Cutting
+pub mod Laying
+pub mod Opening
+pub mod Meant
+pub mod Stepping

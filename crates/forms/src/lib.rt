@@ -1,0 +1,31 @@
+// The choice of a form at run time: a set is measured for it, filled into the fronts of two memories, and opened again from there.
+#![tactic(auto)]
+
+ghost use Rattle.filling.specs.Layouts.{Keeps};
+ghost use Rattle.forms.specs.Choices.{layout_of};
+ghost use Rattle.forms.specs.Telling.{TellsLayout};
+ghost use Rattle.forms.specs.declared.choice.Choice.{Choice};
+
+mod asks;
+mod choice;
+mod index;
+mod laying;
+mod measuring;
+mod opened;
+mod room;
+mod sources;
+mod told;
+
+pub use choice::Choice;
+pub use index::Index;
+pub use laying::fill;
+pub use opened::open;
+pub use room::check_rooms;
+pub use told::Told;
+
+/// In each form, what is filled is opened, and stands for the set; and what is told of a set is what its form says of it. There is
+/// nothing to run: the contract is the theorem.
+pub fn forms_keep()
+    ensures keeps { (x : Choice) → Keeps (layout_of x) }
+    ensures tells { TellsLayout }
+{}

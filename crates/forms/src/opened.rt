@@ -1,0 +1,48 @@
+// Opening an index of any form from the fronts of two memories.
+ghost use Rattle.std.specs.Prelude.{◌≡◌, ◌≤◌, length, IfOk};
+ghost use Rattle.forms.specs.Meant.{meant_of, Holds};
+ghost use Rattle.forms.specs.Opening.{opening_told, decoding_told};
+ghost use Rattle.forms.specs.Telling.{bytes_told, numbers_told};
+ghost use Rattle.forms.specs.Verdicts.{verdict_of};
+
+use super::index::Index;
+use super::sources::{list_source, pioneer_source, plain_source, zombit_source};
+use super::told::Told;
+use faults::Fault;
+use list::List;
+use opening::Opens;
+use pioneer::Pioneer;
+use plain::Plain;
+use zombit::Zombit;
+
+// The index of the source, put in the place of an open one.
+fn opened<X: Opens>(index: X, source: X::Source) -> Result<X, Fault>
+    ensures answer { verdict_of result ≡ X.Opens.verdict source }
+    ensures holds { IfOk result (λ x. X.Opens.holding x source) }
+    ensures means { IfOk result (λ x. X.Walking.meant x ≡ X.Opens.decoding source) }
+{
+    let mut index = index;
+    index.open(source)?;
+    Ok(index)
+}
+
+/// Opens the index whose parts stand at the fronts of the two memories, at the lengths and with the numbers told. It asks for
+/// memories that are at least as long as the parts.
+pub fn open<'a>(told: Told, bytes: &'a [u8], numbers: &'a [u16]) -> Result<Index<'a>, Fault>
+    requires bytes { bytes_told told ≤ length bytes.now }
+    requires numbers { numbers_told told ≤ length numbers.now }
+    ensures answer { verdict_of result ≡ opening_told told bytes.now numbers.now }
+    ensures holds { IfOk result (λ index. Holds index told bytes.now numbers.now) }
+    ensures means { IfOk result (λ index. meant_of index ≡ decoding_told told bytes.now numbers.now) }
+{
+    match told {
+        Told::Plain(told) => opened(Plain::empty(), plain_source(told, bytes)).map(Index::Plain),
+        Told::List(told) => opened(List::empty(), list_source(told, numbers)).map(Index::List),
+        Told::Zombit(told) => opened(Zombit::empty(), zombit_source(told, bytes)).map(
+            Index::Zombit,
+        ),
+        Told::Pioneer(told) => opened(Pioneer::empty(), pioneer_source(told, bytes)).map(
+            Index::Pioneer,
+        ),
+    }
+}
