@@ -1,1 +1,5 @@
 -- The lemmas of this crate.
+pub mod Cuts
+pub mod Laid
+pub mod Keeping
+pub mod Stepped

@@ -35,14 +35,12 @@ pub fn open<'a>(told: Told, bytes: &'a [u8], numbers: &'a [u16]) -> Result<Index
     ensures holds { IfOk result (λ index. Holds index told bytes.now numbers.now) }
     ensures means { IfOk result (λ index. meant_of index ≡ decoding_told told bytes.now numbers.now) }
 {
-    match told {
-        Told::Plain(told) => opened(Plain::empty(), plain_source(told, bytes)).map(Index::Plain),
-        Told::List(told) => opened(List::empty(), list_source(told, numbers)).map(Index::List),
-        Told::Zombit(told) => opened(Zombit::empty(), zombit_source(told, bytes)).map(
-            Index::Zombit,
-        ),
-        Told::Pioneer(told) => opened(Pioneer::empty(), pioneer_source(told, bytes)).map(
-            Index::Pioneer,
-        ),
-    }
+    Ok(match told {
+        Told::Plain(told) => Index::Plain(opened(Plain::empty(), plain_source(told, bytes))?),
+        Told::List(told) => Index::List(opened(List::empty(), list_source(told, numbers))?),
+        Told::Zombit(told) => Index::Zombit(opened(Zombit::empty(), zombit_source(told, bytes))?),
+        Told::Pioneer(told) => {
+            Index::Pioneer(opened(Pioneer::empty(), pioneer_source(told, bytes))?)
+        }
+    })
 }

@@ -1,0 +1,10 @@
+-- What is left to show of `forms_keep`.
+use Rattle.forms.proofs.Keeping.{keeps}
+use Rattle.forms.proofs.Stepped.{tells_layout}
+use Rattle.forms.proofs.forms_keep.Goals as goal
+
+pub returns-clause-keeps : goal.returns-clause-keeps
+returns-clause-keeps c = keeps
+
+pub returns-clause-tells : goal.returns-clause-tells
+returns-clause-tells c = tells_layout
