@@ -1,41 +1,12 @@
--- Parts laid one behind the other: which of them have room, and what is written to the pieces of a memory.
-use Rattle.std.proofs.Common.{◌≡◌, ℕ, suc, ◌+◌, ◌-◌, ◌≤◌, leb, List, [], ◌∷◌, ◌++◌, map, length, take, drop, Ok, Err, refl, sym, ap, ◌∙◌, arith, leb-true, leb-false, append_assoc, take-append-drop, length-drop, drop-drop}
+-- What is written to the pieces of a memory, and what is cut from the front where parts were written.
+use Rattle.std.proofs.Common.{◌≡◌, ℕ, List, [], ◌∷◌, ◌++◌, map, length, take, drop, Ok, Err, refl, sym, ap, ◌∙◌, arith, append_assoc, take-append-drop, drop-drop}
 use Rattle.std.specs.List.{concat}
 use Rattle.std.proofs.Math.Seq.{take-append_seam, drop-append_seam, take-length}
 use Rattle.std.proofs.lemmas.List.{length-take, length-append, drop_all, append-nil}
-use Rattle.std.proofs.lemmas.Bool.{cond_both}
-use Rattle.std.proofs.lemmas.Grind.{common_steps}
-use Rattle.faults.specs.Checks.{Verdict, CheckIs, located, first_of}
-use Rattle.faults.specs.declared.fault.Flaw.TheVariants.{Room}
-use Rattle.faults.specs.declared.fault.Form.{Form}
-use Rattle.faults.proofs.Steps.{then}
-use Rattle.filling.specs.Rooms.{room_check, rooms_from, wrote, wrote_all, fronts}
+use Rattle.faults.specs.Checks.{Verdict}
+use Rattle.filling.specs.Rooms.{wrote, wrote_all, fronts}
 use Rattle.sets.specs.Lists.{over}
-use Rattle.forms.specs.Cutting.{cuts, rooms_in, RoomsIn}
-
--- a piece has room exactly if the memory that it is cut from has
-room_cut : (n : ℕ) (m : List ℕ) → room_check n (length (take n m)) ≡ room_check n (length m)
-room_cut n m = grind (arith, common_steps, length-take n m)
-
--- filling the pieces of a memory is refused where the memory has no room for a part behind the others
-pub rooms_cut : (form : Form) (k : ℕ) (parts : List (List ℕ)) (m : List ℕ) → rooms_from form k parts (cuts (map length parts) m) ≡ rooms_in form k (map length parts) (length m)
-rooms_cut form k [] m = refl
-rooms_cut form k (p ∷ parts) m =
-    let rest = rooms_cut form (suc k) parts (drop (length p) m) ∙ ap (rooms_in form (suc k) (map length parts)) (length-drop (length p) m) in
-    λ i. first_of (located form k (room_cut (length p) m i)) (rest i)
-
-room_law : (took n m rest : ℕ) → took + rest ≡ m → CheckIs 5 (took + n ≤ m) (room_check n rest)
-room_law took n m rest e =
-    cond_both (leb n rest) (Ok tt) (Err Room) (CheckIs 5 (took + n ≤ m))
-    (λ h. omega (arith, leb-true n rest h))
-    (λ h. (refl, λ l. omega (arith, leb-false n rest h)))
-
-pub rooms_law : (form : Form) (k took : ℕ) (lengths : List ℕ) (m rest : ℕ) → took + rest ≡ m → RoomsIn form k took lengths m (rooms_in form k lengths rest)
-rooms_law form k took [] m rest e = tt
-rooms_law form k took (n ∷ lengths) m rest e =
-    then form 5 k (took + n ≤ m) (room_check n rest) (RoomsIn form (suc k) (took + n) lengths m) (rooms_in form (suc k) lengths (rest - n))
-    (room_law took n m rest e)
-    (λ h. rooms_law form (suc k) (took + n) lengths m (rest - n) (omega arith))
+use Rattle.forms.specs.Cutting.{cuts}
 
 -- what is cut from the front where parts were written is the parts
 pub cuts_written : (parts : List (List ℕ)) (m : List ℕ) → cuts (map length parts) (concat parts ++ m) ≡ parts

@@ -1,40 +1,110 @@
--- When which answer of filling in a chosen form is due.
-use Rattle.std.proofs.Common.{◌≡◌, ℕ, Bool, List, length, Ok, Err, refl, sym, subst, arith}
-use Rattle.faults.specs.Checks.{Verdict, first_of}
+-- Which answer of filling in a chosen form is due, and how much of the memories a set takes.
+use Rattle.std.proofs.Common.{◌≡◌, ℕ, ◌≤◌, Bool, List, length, drop, Ok, Err, refl, sym, ap, subst, ◌∙◌, arith}
+use Rattle.std.specs.List.{sum}
+use Rattle.faults.specs.Checks.{Verdict, Check, CheckIs, located, first_of}
 use Rattle.faults.specs.declared.fault.Flaw.TheVariants.{BlockSize}
-use Rattle.faults.specs.declared.fault.Form as faults
-use Rattle.faults.proofs.Steps.{range_law, then}
+use Rattle.faults.proofs.Steps.{range_law, then, passed}
 use Rattle.filling.specs.Layouts.{lengths}
 use Rattle.filling.specs.Rooms.{filling}
-use Rattle.zombit.specs.Lawful as sizes
+use Rattle.sets.specs.Lists.{over}
+use Rattle.std.proofs.lemmas.List.{length-append}
 use Rattle.zombit.specs.Opening.{size_check}
 use Rattle.forms.specs.declared.choice.Choice.{Choice}
 use Rattle.forms.specs.declared.choice.Choice.TheVariants.{Plain, List as Listed, Zombit, Pioneer}
-use Rattle.forms.specs.Choices.{layout_of, by_width}
-use Rattle.forms.specs.Cutting.{RoomsIn}
-use Rattle.forms.specs.Laying.{pieces, laying, LayingIs}
-use Rattle.forms.proofs.Cuts.{rooms_cut, rooms_law}
+use Rattle.forms.specs.Choices.{layout_of, by_width, SizeFits}
+use Rattle.forms.specs.Cutting.{rooms_in, RoomsIn}
+use Rattle.forms.specs.Laying.{bytes_of, numbers_of, pieces, laying, LayingIs, rooms_told}
+use Rattle.forms.specs.Telling.{told_of, bytes_told, numbers_told}
+use Rattle.forms.proofs.Rooms.{rooms_cut, rooms_law, rooms_fit, lengths_sum}
 
-module _ (x : Choice) (s : List Bool) (bytes numbers : List ℕ) where
-  abbrev Rooms : Verdict → Type 0
-  Rooms = RoomsIn (layout_of x).form 1 0 (lengths (layout_of x) s) (length (by_width x bytes numbers))
+-- what measuring checks
+abbrev size_of : Choice → Check
+size_of Plain = Ok tt
+size_of Listed = Ok tt
+size_of (Zombit β) = size_check β
+size_of Pioneer = Ok tt
 
-  pub filling_law : Rooms (filling (layout_of x).form ((layout_of x).parts s) (pieces x s bytes numbers))
-  filling_law =
-      let memory = by_width x bytes numbers in
-      subst Rooms (sym (rooms_cut (layout_of x).form 1 ((layout_of x).parts s) memory))
-      (rooms_law (layout_of x).form 1 0 (lengths (layout_of x) s) (length memory) (length memory) (omega arith))
+size_law : (x : Choice) → CheckIs 4 (SizeFits x) (size_of x)
+size_law Plain = tt
+size_law Listed = tt
+size_law (Zombit β) = range_law BlockSize 2 4096 β
+size_law Pioneer = tt
 
-pub laying_law : (x : Choice) (s : List Bool) (bytes numbers : List ℕ) → LayingIs x s bytes numbers (laying x s bytes numbers)
-laying_law Plain s bytes numbers = filling_law Plain s bytes numbers
-laying_law Listed s bytes numbers = filling_law Listed s bytes numbers
-laying_law (Zombit β) s bytes numbers =
-    let v = filling (layout_of (Zombit β)).form ((layout_of (Zombit β)).parts s) (pieces (Zombit β) s bytes numbers) in
-    let rest = RoomsIn (layout_of (Zombit β)).form 1 0 (lengths (layout_of (Zombit β)) s) (length bytes) in
-    then faults.TheVariants.Zombit 4 0 (sizes.BlockSize β) (size_check β) rest v (range_law BlockSize 2 4096 β) (λ h. filling_law (Zombit β) s bytes numbers)
-laying_law Pioneer s bytes numbers = filling_law Pioneer s bytes numbers
+measuring_is : (x : Choice) → (layout_of x).measuring ≡ located (layout_of x).form 0 (size_of x)
+measuring_is Plain = refl
+measuring_is Listed = refl
+measuring_is (Zombit β) = refl
+measuring_is Pioneer = refl
 
 -- where all is well, measuring did not refuse, nor did filling
 pub both_ok : (v w : Verdict) → first_of v w ≡ Ok tt → (v ≡ Ok tt) × (w ≡ Ok tt)
 both_ok (Ok _) w h = (refl, h)
 both_ok (Err e) w h = absurd (cc)
+
+-- what is told is how much is written
+pub told_bytes : (x : Choice) (s : List Bool) → bytes_told (told_of x s) ≡ length (bytes_of x s)
+told_bytes Plain s = lengths_sum ((layout_of Plain).parts s)
+told_bytes Listed s = refl
+told_bytes (Zombit β) s = lengths_sum ((layout_of (Zombit β)).parts s)
+told_bytes Pioneer s = lengths_sum ((layout_of Pioneer).parts s)
+
+pub told_numbers : (x : Choice) (s : List Bool) → numbers_told (told_of x s) ≡ length (numbers_of x s)
+told_numbers Plain s = refl
+told_numbers Listed s = lengths_sum ((layout_of Listed).parts s)
+told_numbers (Zombit β) s = refl
+told_numbers Pioneer s = refl
+
+-- so the memories that were written have what is told
+over_long : (part memory : List ℕ) (n : ℕ) → n ≡ length part → n ≤ length (over part memory)
+over_long part memory n e = omega (arith, length-append part (drop (length part) memory))
+
+pub told_fits : (x : Choice) (s : List Bool) (bytes numbers : List ℕ)
+    → (bytes_told (told_of x s) ≤ length (over (bytes_of x s) bytes)) × (numbers_told (told_of x s) ≤ length (over (numbers_of x s) numbers))
+told_fits x s bytes numbers = (over_long (bytes_of x s) bytes _ (told_bytes x s), over_long (numbers_of x s) numbers _ (told_numbers x s))
+
+-- all parts fit where their memory is long enough for what is written
+parts_fit : (x : Choice) (s : List Bool) (bytes numbers : List ℕ) → length (bytes_of x s) ≤ length bytes → length (numbers_of x s) ≤ length numbers
+    → sum (lengths (layout_of x) s) ≤ length (by_width x bytes numbers)
+parts_fit Plain s bytes numbers b n = omega (arith, lengths_sum ((layout_of Plain).parts s))
+parts_fit Listed s bytes numbers b n = omega (arith, lengths_sum ((layout_of Listed).parts s))
+parts_fit (Zombit β) s bytes numbers b n = omega (arith, lengths_sum ((layout_of (Zombit β)).parts s))
+parts_fit Pioneer s bytes numbers b n = omega (arith, lengths_sum ((layout_of Pioneer).parts s))
+
+rooms_are : (x : Choice) (s : List Bool) (bytes numbers : List ℕ)
+    → rooms_in (layout_of x).form 1 (lengths (layout_of x) s) (length (by_width x bytes numbers)) ≡ rooms_told (told_of x s) (length bytes) (length numbers)
+rooms_are Plain s bytes numbers = refl
+rooms_are Listed s bytes numbers = refl
+rooms_are (Zombit β) s bytes numbers = refl
+rooms_are Pioneer s bytes numbers = refl
+
+module _ (x : Choice) (s : List Bool) (bytes numbers : List ℕ) where
+  abbrev memory : List ℕ
+  memory = by_width x bytes numbers
+
+  abbrev filled : Verdict
+  filled = filling (layout_of x).form ((layout_of x).parts s) (pieces x s bytes numbers)
+
+  abbrev RoomsAre : Verdict → Type 0
+  RoomsAre = RoomsIn (layout_of x).form 1 0 (lengths (layout_of x) s) (length memory)
+
+  filled_rooms : filled ≡ rooms_in (layout_of x).form 1 (lengths (layout_of x) s) (length memory)
+  filled_rooms = rooms_cut (layout_of x).form 1 ((layout_of x).parts s) memory
+
+  filled_law : RoomsAre filled
+  filled_law = subst RoomsAre (sym filled_rooms) (rooms_law (layout_of x).form 1 0 (lengths (layout_of x) s) (length memory) (length memory) (omega arith))
+
+  pub laying_law : LayingIs x s bytes numbers (laying x s bytes numbers)
+  laying_law =
+      subst (λ v. LayingIs x s bytes numbers (first_of v filled)) (sym (measuring_is x))
+      (then (layout_of x).form 4 0 (SizeFits x) (size_of x) RoomsAre filled (size_law x) (λ h. filled_law))
+
+  -- filling is refused by measuring, and then where the rooms for what is told are
+  pub laying_rooms : laying x s bytes numbers ≡ first_of (layout_of x).measuring (rooms_told (told_of x s) (length bytes) (length numbers))
+  laying_rooms = ap (first_of (layout_of x).measuring) (filled_rooms ∙ rooms_are x s bytes numbers)
+
+  -- with such blocks and memories that are long enough, nothing is refused
+  pub laying_ok : SizeFits x → length (bytes_of x s) ≤ length bytes → length (numbers_of x s) ≤ length numbers → laying x s bytes numbers ≡ Ok tt
+  laying_ok size b n =
+      let taken = measuring_is x ∙ ap (located (layout_of x).form 0) (passed 4 (SizeFits x) (size_of x) (size_law x) size) in
+      let fit = filled_rooms ∙ rooms_fit (layout_of x).form 1 (lengths (layout_of x) s) (length memory) (parts_fit x s bytes numbers b n) in
+      λ i. first_of (taken i) (fit i)

@@ -1,10 +1,12 @@
 -- The forms to choose from, by what each says of a set, and by which of two memories its parts go to: one of bytes, and one of 16-bit numbers.
+use Rattle.faults.specs.Checks.{Verdict, Needs, Accepted}
 use Rattle.filling.specs.Layouts.{Layout}
 use Rattle.forms.specs.declared.choice.Choice.{Choice}
 use Rattle.forms.specs.declared.choice.Choice.TheVariants.{Plain, List as Listed, Zombit, Pioneer}
 use Rattle.plain.specs.Filling.{plain_layout}
 use Rattle.list.specs.Filling.{list_layout}
 use Rattle.zombit.specs.Filling.{zombit_layout}
+use Rattle.zombit.specs.Lawful.{BlockSize}
 use Rattle.pioneer.specs.Filling.{pioneer_layout}
 
 abbrev pub layout_of : Choice → Layout
@@ -12,6 +14,17 @@ layout_of Plain = plain_layout
 layout_of Listed = list_layout
 layout_of (Zombit β) = zombit_layout β
 layout_of Pioneer = pioneer_layout
+
+-- the form has such blocks
+abbrev pub SizeFits : Choice → Type 0
+SizeFits Plain = Unit {0}
+SizeFits Listed = Unit {0}
+SizeFits (Zombit β) = BlockSize β
+SizeFits Pioneer = Unit {0}
+
+-- measuring refuses blocks that the form does not have, and nothing else
+abbrev pub MeasuringIs : Choice → Verdict → Type 0
+MeasuringIs x = Needs (layout_of x).form 4 0 (SizeFits x) Accepted
 
 -- the first for a form whose parts are bytes, the second for the one whose part is 16-bit numbers
 abbrev pub by_width : {A : Type 0} → Choice → A → A → A

@@ -2,14 +2,11 @@
 use Rattle.std.specs.Prelude.{ℕ, Bool, List, [], length}
 use Rattle.std.specs.List.{concat}
 use Rattle.faults.specs.Checks.{Verdict, first_of, Needs}
-use Rattle.faults.specs.declared.fault.Form as forms
 use Rattle.filling.specs.Layouts.{lengths}
 use Rattle.filling.specs.Rooms.{filling}
-use Rattle.zombit.specs.Lawful.{BlockSize}
 use Rattle.forms.specs.declared.choice.Choice.{Choice}
-use Rattle.forms.specs.declared.choice.Choice.TheVariants.{Plain, List as Listed, Zombit, Pioneer}
 use Rattle.forms.specs.declared.told.Told.{Told}
-use Rattle.forms.specs.Choices.{layout_of, by_width}
+use Rattle.forms.specs.Choices.{layout_of, by_width, SizeFits}
 use Rattle.forms.specs.Cutting.{cuts, rooms_in, RoomsIn}
 use Rattle.forms.specs.Telling.{choice_told, lengths_told}
 
@@ -28,17 +25,11 @@ pieces x s bytes numbers = cuts (lengths (layout_of x) s) (by_width x bytes numb
 abbrev pub laying : Choice → List Bool → List ℕ → List ℕ → Verdict
 laying x s bytes numbers = first_of (layout_of x).measuring (filling (layout_of x).form ((layout_of x).parts s) (pieces x s bytes numbers))
 
--- what must hold of the block size
-abbrev pub SizeNeeds : Choice → (Verdict → Type 0) → Verdict → Type 0
-SizeNeeds Plain rest = rest
-SizeNeeds Listed rest = rest
-SizeNeeds (Zombit β) rest = Needs forms.TheVariants.Zombit 4 0 (BlockSize β) rest
-SizeNeeds Pioneer rest = rest
-
--- when which answer is due: there must be such a block size, and then room for each part behind those before it
+-- when which answer is due: the form must have such blocks, and then each part must have room behind those before it
 abbrev pub LayingIs : Choice → List Bool → List ℕ → List ℕ → Verdict → Type 0
 LayingIs x s bytes numbers =
-    SizeNeeds x (RoomsIn (layout_of x).form 1 0 (lengths (layout_of x) s) (by_width x (length bytes) (length numbers)))
+    Needs (layout_of x).form 4 0 (SizeFits x)
+    (RoomsIn (layout_of x).form 1 0 (lengths (layout_of x) s) (length (by_width x bytes numbers)))
 
 -- the first part told for which so many bytes, or 16-bit numbers, have no room
 abbrev pub rooms_told : Told → ℕ → ℕ → Verdict

@@ -1,6 +1,6 @@
 // How much a set takes in a form.
 ghost use Rattle.std.specs.Prelude.{◌≡◌, min, IfOk};
-ghost use Rattle.forms.specs.Choices.{layout_of};
+ghost use Rattle.forms.specs.Choices.{layout_of, MeasuringIs};
 ghost use Rattle.forms.specs.Telling.{told_of, bytes_told, numbers_told};
 ghost use Rattle.forms.specs.Verdicts.{verdict_of};
 
@@ -17,6 +17,7 @@ impl Told {
     /// What the set takes in the form, unless that has no such block size.
     pub fn of<S: Walking>(choice: Choice, set: &S) -> Result<Told, Fault>
         ensures answer { verdict_of result ≡ (layout_of choice).measuring }
+        ensures law { MeasuringIs choice (verdict_of result) }
         ensures told { IfOk result (λ told. told ≡ told_of choice (S.Walking.meant set.now)) }
     {
         Ok(match choice {
