@@ -50,3 +50,12 @@ lengths_sum (p ∷ parts) =
     sum_by-cons (λ (y : ℕ). y) (length p) (map length parts)
     ∙ ap (λ (n : ℕ). length p + n) (lengths_sum parts)
     ∙ sym (length-append p (concat parts))
+
+-- the last part may have all that is left
+pub rooms_three : (form : Form) (p q r m : List ℕ)
+    → rooms_from form 1 (p ∷ q ∷ r ∷ []) (take (length p) m ∷ take (length q) (drop (length p) m) ∷ drop (length q) (drop (length p) m) ∷ [])
+    ≡ rooms_from form 1 (p ∷ q ∷ r ∷ []) (cuts (map length (p ∷ q ∷ r ∷ [])) m)
+rooms_three form p q r m =
+    let last = room_cut (length r) (drop (length q) (drop (length p) m)) in
+    λ i. first_of (located form 1 (room_check (length p) (length (take (length p) m))))
+    (first_of (located form 2 (room_check (length q) (length (take (length q) (drop (length p) m))))) (first_of (located form 3 (sym last i)) (Ok tt)))

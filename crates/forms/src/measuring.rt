@@ -28,7 +28,7 @@ impl Told {
         })
     }
 
-    /// How many bytes the parts take together.
+    /// How many bytes the parts take together; the largest number where there are more.
     pub fn bytes(self) -> usize
         ensures { result ≡ min (bytes_told self) usize.MAX }
     {
