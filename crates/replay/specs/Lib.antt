@@ -1,0 +1,4 @@
+-- The definitions of this crate.
+pub mod Plays
+pub mod Whole
+pub mod Views
