@@ -18,29 +18,29 @@ pub record Stepped : Type 0 where
   pub window : List ℕ
   pub state : Report
 
+-- a call that only asks
+abbrev pub asked : Answer → Report → List ℕ → Stepped
+asked a s window = record { answer = a; window = window; state = s }
+
 -- one call, with this window for a sheet
 abbrev pub step : List Bool → List Bool → Report → Call → List ℕ → Stepped
-step f c s (call.Count a b) window = record { answer = answer.Count (count_in f (end f c) a b); window = window; state = s }
-step f c s (call.Nearest p) window = record { answer = answer.Nearest (nearest_at f (end f c) p); window = window; state = s }
-step f c s (call.Sign n) window = record { answer = answer.Sign (sign_at f (end f c) n); window = window; state = s }
-step f c s (call.Pick k) window = record { answer = answer.Pick (pick_from f (end f c) k); window = window; state = s }
+step f c s (call.Count a b) window = asked (answer.Count (count_in f (end f c) a b)) s window
+step f c s (call.Nearest p) window = asked (answer.Nearest (nearest_at f (end f c) p)) s window
+step f c s (call.Sign n) window = asked (answer.Sign (sign_at f (end f c) n)) s window
+step f c s (call.Pick k) window = asked (answer.Pick (pick_from f (end f c) k)) s window
 step f c s (call.Go q) window =
     let r = go_to (end f c) s.place q in
     record { answer = answer.Go r; window = window; state = after_go r s q }
-step f c s call.Next window = record { answer = answer.Next (next_from f c s.place).taken; window = window; state = after_next f c s }
+step f c s call.Next window =
+    record { answer = answer.Next (next_from f c s.place).taken; window = window; state = after_next f c s }
 step f c s (call.Sheet _) window =
     let page = sheet_from f c (length window) s.place in
     record { answer = answer.Sheet (written_of page); window = over page.bays window; state = after_sheet s page }
 
--- how many of the next numbers of the memory a call takes
+-- how many of the next numbers of the memory a call takes, where there are so many
 abbrev pub room : Call → ℕ
 room (call.Sheet k) = k
-room (call.Count a b) = 0
-room (call.Nearest p) = 0
-room (call.Sign n) = 0
-room (call.Pick k) = 0
-room (call.Go q) = 0
-room call.Next = 0
+room _ = 0
 
 -- one call of a list: the place before it, the call, its answer, and its window after it
 pub record Turn : Type 0 where

@@ -1,11 +1,11 @@
 -- What is true of a whole list of calls on a fresh round.
-use Rattle.std.specs.Prelude.{◌≡◌, ℕ, suc, ◌<◌, ◌≤◌, Bool, true, List, [], ◌∷◌, ◌++◌, length, take, map, sum_by, Some, None, Ok, Err, Option, Result}
+use Rattle.std.specs.Prelude.{◌≡◌, ℕ, suc, ◌≤◌, Bool, true, List, [], ◌∷◌, ◌++◌, length, take, map, sum_by, Some, None, Ok, Err, Option, Result}
 use Rattle.std.specs.List.{flat_map}
 use Rattle.faults.specs.declared.fault.Refusal.{Refusal}
 use Rattle.sets.specs.Lists.{ListOf}
 use Rattle.round.specs.Machine.{end, common}
 use Rattle.round.specs.States.{fresh}
-use Rattle.round.specs.Stretches.{Row, In, Fewest}
+use Rattle.round.specs.Stretches.{Row, Between, In, Fewest}
 use Rattle.replay.specs.declared.calls.Answer.{Answer}
 use Rattle.replay.specs.declared.calls.Answer.TheVariants as answer
 use Rattle.replay.specs.declared.calls.Call.{Call}
@@ -21,11 +21,7 @@ bay_of (Some b) = b ∷ []
 abbrev pub gives : Answer → List ℕ → List ℕ
 gives (answer.Next t) window = bay_of t.bay
 gives (answer.Sheet w) window = take w.bays window
-gives (answer.Count _) window = []
-gives (answer.Nearest _) window = []
-gives (answer.Sign _) window = []
-gives (answer.Pick _) window = []
-gives (answer.Go _) window = []
+gives _ window = []
 
 abbrev pub bays_of : List Turn → List ℕ
 bays_of turns = flat_map (λ (t : Turn). gives t.answer t.window) turns
@@ -47,18 +43,14 @@ stepped_over turns = flat_map (λ (t : Turn). skips t.call t.answer t.place) tur
 abbrev pub tells : Answer → ℕ
 tells (answer.Next t) = t.stretches
 tells (answer.Sheet w) = w.stretches
-tells (answer.Count _) = 0
-tells (answer.Nearest _) = 0
-tells (answer.Sign _) = 0
-tells (answer.Pick _) = 0
-tells (answer.Go _) = 0
+tells _ = 0
 
 abbrev pub told : List Answer → ℕ
 told answers = sum_by tells answers
 
--- bay j is below the place, and in none of the rows stepped over
+-- bay j is from 1 on, below the place, and in none of the rows stepped over
 abbrev pub Passed : List Row → ℕ → ℕ → Type 0
-Passed over place j = (1 ≤ j) × (j < place) × (In over j → ⊥)
+Passed over place j = Between 1 place j × (In over j → ⊥)
 
 -- the bays are the common bays that were passed, each once and rising
 abbrev pub HandedOut : List Bool → List Bool → List Row → ℕ → List ℕ → Type 0

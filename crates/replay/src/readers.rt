@@ -29,7 +29,8 @@ fn turn<F: Counting, C: Walking>(
 ) -> Answer
     requires { at.old ≤ length memory.old }
     ensures answer { result ≡ (turn_of round.old call at.old memory.old).answer }
-    ensures writes { memory.new ≡ take at.old memory.old ++ ((turn_of round.old call at.old memory.old).window ++ drop at.new memory.old) }
+    ensures writes { memory.new
+        ≡ take at.old memory.old ++ ((turn_of round.old call at.old memory.old).window ++ drop at.new memory.old) }
     ensures moves { at.new ≡ min (at.old + room call) (length memory.old) }
     ensures state { round.new.state ≡ (turn_of round.old call at.old memory.old).state }
     ensures sets { SameSets round.old round.new }
@@ -51,11 +52,17 @@ pub fn two_readers<F: Counting + Drop, C: Walking + Drop, G: Counting + Drop, D:
     late_memory: &mut [u32],
 ) -> (Report, Report)
     ensures calls { calls_of exchanges.new ≡ calls_of exchanges.old }
-    ensures plain { first_seen exchanges.new memory.new result.0 ≡ run (F.Walking.meant free) (C.Walking.meant class) (calls_of exchanges.old) memory.old }
-    ensures late_plain { second_seen exchanges.new late_memory.new result.1 ≡ run (G.Walking.meant late_free) (D.Walking.meant late_class) (calls_of exchanges.old) late_memory.old }
-    ensures kept { Kept (F.Walking.meant free) (C.Walking.meant class) (calls_of exchanges.old) memory.old (first_seen exchanges.new memory.new result.0) }
-    ensures late_kept { Kept (G.Walking.meant late_free) (D.Walking.meant late_class) (calls_of exchanges.old) late_memory.old (second_seen exchanges.new late_memory.new result.1) }
-    ensures same { G.Walking.meant late_free ≡ F.Walking.meant free → D.Walking.meant late_class ≡ C.Walking.meant class → late_memory.old ≡ memory.old → second_seen exchanges.new late_memory.new result.1 ≡ first_seen exchanges.new memory.new result.0 }
+    ensures plain { first_seen exchanges.new memory.new result.0
+        ≡ run (F.Walking.meant free) (C.Walking.meant class) (calls_of exchanges.old) memory.old }
+    ensures late_plain { second_seen exchanges.new late_memory.new result.1
+        ≡ run (G.Walking.meant late_free) (D.Walking.meant late_class) (calls_of exchanges.old) late_memory.old }
+    ensures kept { Kept (F.Walking.meant free) (C.Walking.meant class) (calls_of exchanges.old) memory.old
+        (first_seen exchanges.new memory.new result.0) }
+    ensures late_kept { Kept (G.Walking.meant late_free) (D.Walking.meant late_class) (calls_of exchanges.old) late_memory.old
+        (second_seen exchanges.new late_memory.new result.1) }
+    ensures same { G.Walking.meant late_free ≡ F.Walking.meant free → D.Walking.meant late_class ≡ C.Walking.meant class
+        → late_memory.old ≡ memory.old
+        → second_seen exchanges.new late_memory.new result.1 ≡ first_seen exchanges.new memory.new result.0 }
 {
     let mut round = Round::new(free, class);
     let mut late_round = Round::new(late_free, late_class);

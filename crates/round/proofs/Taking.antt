@@ -53,14 +53,14 @@ module _ (f c : List Bool) where
 
   -- ---- a sheet
 
-  abbrev PageTo : ℕ → Page → Type 0
+  abbrev pub PageTo : ℕ → Page → Type 0
   PageTo p r = Made f c p r.place r.bays r.stretches
 
   page_made : (p : ℕ) (w : Walked) (r : Page) (o : Option ℕ) → Made f c p w.place (bay_of o) w.taken.stretches → PageTo w.place r → PageTo p (paged o w r)
   page_made p w r None a b = a
   page_made p w r (Some q) a b = made_join f c p w.place r.place (q ∷ []) r.bays w.taken.stretches r.stretches a b
 
-  sheet_made : (k p : ℕ) → 1 ≤ p → PageTo p (sheet_from f c k p)
+  pub sheet_made : (k p : ℕ) → 1 ≤ p → PageTo p (sheet_from f c k p)
   sheet_made zero p l = subst (PageTo p) (sym (sheet_full f c p)) (made_none f c p)
   sheet_made (suc k) p l =
       let w = next_from f c p in
@@ -68,7 +68,7 @@ module _ (f c : List Bool) where
       let up = steps_up suc p w.place (bay_of w.taken.bay) a.rises in
       subst (PageTo p) (sym (sheet_step f c k p)) (page_made p w (sheet_from f c k w.place) w.taken.bay a (sheet_made k w.place (omega arith)))
 
-  abbrev PageStops : ℕ → ℕ → Page → Type 0
+  abbrev pub PageStops : ℕ → ℕ → Page → Type 0
   PageStops p k r = Stops f c p k r.bays r.place
 
   page_stops : (p k : ℕ) (w : Walked) (r : Page) (o : Option ℕ) → HandedIs f c p o w.place → PageStops w.place k r → PageStops p (suc k) (paged o w r)
@@ -79,7 +79,7 @@ module _ (f c : List Bool) where
     short = λ l. s.short (omega arith) ∙ omega (arith, is.0, is.1, is.4);
   }
 
-  sheet_stops : (k p : ℕ) → PageStops p k (sheet_from f c k p)
+  pub sheet_stops : (k p : ℕ) → PageStops p k (sheet_from f c k p)
   sheet_stops zero p = subst (PageStops p 0) (sym (sheet_full f c p)) (record { fits = omega arith; full = λ e. refl; short = λ l. absurd (omega arith) })
   sheet_stops (suc k) p =
       let w = next_from f c p in

@@ -1,0 +1,4 @@
+-- The lemmas of this crate.
+pub mod Turning
+pub mod Playing
+pub mod Standing
