@@ -2,3 +2,4 @@
 pub mod Bits
 pub mod Checks
 pub mod Words
+pub mod Packing

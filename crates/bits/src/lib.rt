@@ -8,11 +8,15 @@
 mod checks;
 mod count;
 mod demands;
+mod packing;
 mod scan;
 mod words;
+mod writing;
 
 pub use checks::check;
 pub use count::{kth, ones};
 pub use demands::{check_length, check_spare};
+pub use packing::packing_holds;
 pub use scan::{next, previous};
 pub use words::get;
+pub use writing::{clear, put, write};
