@@ -7,7 +7,7 @@ use Rattle.bits.specs.Words.{digit, Holds}
 use Rattle.bits.proofs.Digits.{high_zero, low_digit, high_digit}
 use Rattle.bits.proofs.Held.{miss}
 
-bit_at_lem : (bs : List ℕ) (j s : ℕ) → s < 8 → bit_at bs (suc (8 * j + s)) ≡ digit (get_or bs j 0) s
+pub bit_at_lem : (bs : List ℕ) (j s : ℕ) → s < 8 → bit_at bs (suc (8 * j + s)) ≡ digit (get_or bs j 0) s
 unfolding bit_at
 bit_at_lem bs j s l =
     let d : (suc (8 * j + s) - 1) / 8 ≡ j = omega arith in

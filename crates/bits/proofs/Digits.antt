@@ -94,7 +94,7 @@ low_digit a b s h l =
 pub high_digit : (a b s : ℕ) → b < 256 → (a * 256 + b) / 2 ^ (8 + s) % 2 ≡ a / 2 ^ s % 2
 high_digit a b s l = ap (λ (y : ℕ). y % 2) (sym (shr-shr (a * 256 + b) 8 s) ∙ ap (λ (y : ℕ). y / 2 ^ s) (digits_div a l))
 
-half_digit : (x s : ℕ) → x / 2 / 2 ^ s % 2 ≡ x / 2 ^ suc s % 2
+pub half_digit : (x s : ℕ) → x / 2 / 2 ^ s % 2 ≡ x / 2 ^ suc s % 2
 half_digit x s = let e : 1 + s ≡ suc s = omega arith in ap (λ (y : ℕ). y % 2) (shr-shr x 1 s ∙ ap (λ (y : ℕ). x / 2 ^ y) e)
 
 pub not_digit : (m x s : ℕ) → x < 2 ^ m → s < m → (2 ^ m - 1 - x) / 2 ^ s % 2 ≡ 1 - x / 2 ^ s % 2

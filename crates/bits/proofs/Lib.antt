@@ -3,3 +3,4 @@ pub mod Digits
 pub mod Held
 pub mod Bytes
 pub mod Checked
+pub mod Packing

@@ -8,7 +8,7 @@
 mod checks;
 mod count;
 mod demands;
-mod packing;
+mod law;
 mod scan;
 mod words;
 mod writing;
@@ -16,7 +16,7 @@ mod writing;
 pub use checks::check;
 pub use count::{kth, ones};
 pub use demands::{check_length, check_spare};
-pub use packing::packing_holds;
+pub use law::packing_holds;
 pub use scan::{next, previous};
 pub use words::get;
 pub use writing::{clear, put, write};
