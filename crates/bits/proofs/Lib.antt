@@ -3,4 +3,6 @@ pub mod Digits
 pub mod Held
 pub mod Bytes
 pub mod Checked
+pub mod Values
 pub mod Packing
+pub mod Fronts

@@ -1,8 +1,8 @@
 // Bitvectors in bytes. A bitvector is a set of numbers, of which its ones are the members: one bit, the next and the previous bit
-// of a sort, how many ones, the k-th bit of a sort, and the checks of the bytes. These are leaves for the forms of an index: they
-// ask for bit numbers within the bytes, and `check` and `check_spare` for at most 131,072 bits. They take the bytes, and not a
-// struct of bytes and their number of bits: an index holds its numbers and its parts and nothing else, and the number of bits of a
-// row follows from them.
+// of a sort, how many ones, the k-th bit of a sort, the checks of the bytes, and the writing of bits to the front of a memory. These
+// are leaves for the forms of an index: they ask for bit numbers within the bytes, writing for room, and `check`, `check_spare` and
+// `write` for at most 131,072 bits. They take the bytes, and not a struct of bytes and their number of bits: an index holds its
+// numbers and its parts and nothing else, and the number of bits of a row follows from them.
 #![tactic(auto)]
 
 mod checks;

@@ -1,7 +1,7 @@
 -- What is left to show of `clear`.
 use Rattle.std.proofs.Common.{◌≡◌, arith}
 use Rattle.bits.specs.Bits.{bytes_for}
-use Rattle.bits.proofs.Packing.{over_none}
+use Rattle.bits.proofs.Fronts.{over_none}
 use Rattle.bits.proofs.writing.clear.Goals as goal
 
 pub returns : goal.returns

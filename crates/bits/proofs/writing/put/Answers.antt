@@ -3,7 +3,7 @@ use Rattle.std.proofs.Common.{◌-◌, ◌*◌, ◌/◌, ◌%◌, ◌^◌, slice
 use Rattle.std.proofs.lemmas.Nat.{one_shl}
 use Rattle.sets.specs.Lists.{over}
 use Rattle.bits.specs.Packing.{pack}
-use Rattle.bits.proofs.Packing.{over_put}
+use Rattle.bits.proofs.Fronts.{over_put}
 use Rattle.bits.proofs.writing.put.Goals as goal
 
 pub returns-clause-bits : goal.returns-clause-bits
