@@ -3,3 +3,5 @@ pub mod Places
 pub mod Decoding
 pub mod Lawful
 pub mod Opening
+pub mod Filling
+pub mod Refilling

@@ -1,3 +1,5 @@
 -- The definitions of this crate.
 pub mod Decoding
 pub mod Opening
+pub mod Filling
+pub mod Refilling

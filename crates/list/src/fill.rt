@@ -1,0 +1,51 @@
+// Writing a set in the list form.
+ghost use Rattle.std.specs.Prelude.{◌≡◌, ◌≤◌, [], ◌∷◌, length};
+ghost use Rattle.faults.specs.declared.fault.Form as forms;
+ghost use Rattle.filling.specs.Rooms.{filling, FillingIs, wrote};
+ghost use Rattle.sets.specs.Lists.{over};
+ghost use Rattle.list.specs.Filling.{numbers_of, parts_of};
+
+use super::slip::ListSlip;
+use super::told::ListTold;
+use faults::{Fault, Form, Located};
+use filling::check_room;
+use sets::{Sort, Walking};
+
+// Writes the members of the set to the front of the memory, which has room for them.
+fn write_members<S: Walking>(set: &S, numbers: &mut [u16])
+    requires { length (numbers_of (S.Walking.meant set.now)) ≤ length numbers.old }
+    ensures { numbers.new ≡ over (numbers_of (S.Walking.meant set.now)) numbers.old }
+{
+    let mut from = 1;
+    for slot in numbers.iter_mut() {
+        let Some(bay) = set.next(Sort::Members, from) else {
+            break;
+        };
+        *slot = bay as u16;
+        from = bay + 1;
+    }
+}
+
+impl<S: Walking> ListSlip<S> {
+    /// What opening takes of the set, and how many numbers filling writes.
+    pub fn told(&self) -> ListTold
+        ensures { result ≡ self.now.told }
+    {
+        self.told
+    }
+
+    /// Writes the set to the front of the memory, unless that is too short, and gives it back.
+    pub fn fill(self, numbers: &mut [u16]) -> (S, Result<(), Fault>)
+        ensures set { result.0 ≡ self.set }
+        ensures answer { result.1 ≡ filling forms.TheVariants.List (parts_of (S.Walking.meant self.set)) (numbers.old ∷ []) }
+        ensures law { FillingIs forms.TheVariants.List (parts_of (S.Walking.meant self.set)) (numbers.old ∷ []) result.1 }
+        ensures writes { numbers.new ≡ wrote result.1 (numbers_of (S.Walking.meant self.set)) numbers.old }
+    {
+        let ListSlip { set, told } = self;
+        let room = check_room(told.numbers, numbers.len()).at(Form::List, 1);
+        if room.is_ok() {
+            write_members(&set, numbers);
+        }
+        (set, room)
+    }
+}

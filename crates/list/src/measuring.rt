@@ -1,0 +1,34 @@
+// How much a set takes in the list form.
+ghost use Rattle.std.specs.Prelude.{◌≡◌};
+ghost use Rattle.list.specs.Filling.{told_of};
+
+use super::slip::ListSlip;
+use super::told::ListTold;
+use sets::{Sort, Walking};
+
+impl ListTold {
+    /// What the set takes, counted by a walk from member to member.
+    pub fn of<S: Walking>(set: &S) -> ListTold
+        ensures { result ≡ told_of (S.Walking.meant set.now) }
+    {
+        let mut numbers = 0;
+        let mut from = 1;
+        while let Some(bay) = set.next(Sort::Members, from) {
+            numbers += 1;
+            from = bay + 1;
+        }
+        ListTold {
+            last: set.last(),
+            numbers,
+        }
+    }
+}
+
+/// Measures a set: the slip holds it, and tells what it takes.
+pub fn measure<S: Walking>(set: S) -> ListSlip<S>
+    ensures set { result.set ≡ set }
+    ensures told { result.told ≡ told_of (S.Walking.meant set) }
+{
+    let told = ListTold::of(&set);
+    ListSlip { set, told }
+}

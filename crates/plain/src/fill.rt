@@ -1,0 +1,36 @@
+// Writing a set in the plain form.
+ghost use Rattle.std.specs.Prelude.{◌≡◌, [], ◌∷◌};
+ghost use Rattle.faults.specs.declared.fault.Form as forms;
+ghost use Rattle.filling.specs.Rooms.{filling, FillingIs, wrote};
+ghost use Rattle.plain.specs.Filling.{bits_of, parts_of};
+
+use super::slip::PlainSlip;
+use super::told::PlainTold;
+use bits::write;
+use faults::{Fault, Form, Located};
+use filling::check_room;
+use sets::Walking;
+
+impl<S: Walking> PlainSlip<S> {
+    /// What opening takes of the set, and how many bytes filling writes.
+    pub fn told(&self) -> PlainTold
+        ensures { result ≡ self.now.told }
+    {
+        self.told
+    }
+
+    /// Writes the set to the front of the memory, unless that is too short, and gives it back.
+    pub fn fill(self, bits: &mut [u8]) -> (S, Result<(), Fault>)
+        ensures set { result.0 ≡ self.set }
+        ensures answer { result.1 ≡ filling forms.TheVariants.Plain (parts_of (S.Walking.meant self.set)) (bits.old ∷ []) }
+        ensures law { FillingIs forms.TheVariants.Plain (parts_of (S.Walking.meant self.set)) (bits.old ∷ []) result.1 }
+        ensures writes { bits.new ≡ wrote result.1 (bits_of (S.Walking.meant self.set)) bits.old }
+    {
+        let PlainSlip { set, told } = self;
+        let room = check_room(told.bits, bits.len()).at(Form::Plain, 1);
+        if room.is_ok() {
+            write(bits, told.last, |i| set.holds(i));
+        }
+        (set, room)
+    }
+}
