@@ -1,14 +1,15 @@
 -- What is asked of a set made by a test is asked of the test.
-use Rattle.std.proofs.Common.{◌≡◌, ℕ, suc, ◌-◌, ◌<◌, ◌≤◌, min, max, Bool, false, length, sym, ap, ◌∙◌, ⊎_elim, arith}
+use Rattle.std.proofs.Common.{◌≡◌, ℕ, suc, ◌-◌, ◌<◌, ◌≤◌, min, max, Bool, false, List, length, sym, ap, ◌∙◌, ⊎_elim, arith}
 use Rattle.std.proofs.lemmas.List.FromFn.{get_or-map-range_with_len}
 use Rattle.std.proofs.lemmas.Bool.{cases_lt}
 use Rattle.sets.specs.declared.Sort.{Sort}
 use Rattle.sets.specs.declared.Sort.TheVariants.{Members}
 use Rattle.sets.specs.Search.{first_from, last_to, count_to, kth_to}
-use Rattle.sets.specs.Sets.{is, fits, share, next_of, previous_of, rank_of, select_of}
+use Rattle.sets.specs.Sets.{is, is_member, fits, share, next_of, previous_of, rank_of, select_of}
 use Rattle.sets.specs.Made.{set_by, made_length, MadeBy, of_sort}
-use Rattle.sets.proofs.Bays.{is_inside, is_beyond}
+use Rattle.sets.proofs.Bays.{is_inside, is_beyond, is_none}
 use Rattle.sets.proofs.Only.{next_zero, previous_beyond, rank_beyond}
+use Rattle.sets.proofs.Same.{sets_by_members}
 use Rattle.sets.proofs.Tests.{first_agree, last_agree, count_agree, kth_agree}
 use Rattle.sets.proofs.Sharing.{count_share}
 
@@ -77,3 +78,16 @@ module _ (u : ℕ) (f : ℕ → Bool) where
   made_select k n =
       sym (kth_agree (is (set_by u f) k) (of_sort k f) n u (λ j l g. made_is k j l g))
       ∙ ap (kth_to (is (set_by u f) k) n) (sym (made_length u f))
+
+-- a test that says of each bay whether it is a member makes the set itself
+pub made_again : (s : List Bool) (f : ℕ → Bool) → ((i : ℕ) → 1 ≤ i → i ≤ length s → f i ≡ is_member s i) → set_by (length s) f ≡ s
+made_again s f h =
+    let u = length s in
+    sets_by_members (set_by u f) s (made_length u f) (λ i.
+    ⊎_elim
+    (λ none. is_none (set_by u f) Members i (omega arith) ∙ sym (is_none s Members i (omega arith)))
+    (λ some. ⊎_elim
+    (λ past. made_outside u f Members i past ∙ sym (is_beyond s Members i past))
+    (λ within. made_is u f Members i some within ∙ h i some within)
+    (cases_lt u i))
+    (cases_lt i 1))
