@@ -5,3 +5,7 @@ pub mod Places
 pub mod Asked
 pub mod Selected
 pub mod Holding
+pub mod Walked
+pub mod Listed
+pub mod Opened
+pub mod Written

@@ -7,12 +7,12 @@ use Rattle.sets.specs.Made.{made_length}
 use Rattle.sets.proofs.Made.{made_is}
 use Rattle.list.specs.Decoding.{is_among, set_of, Decodes}
 
-among_if : (ns : List ℕ) (i : ℕ) → is_among ns i ≡ true → Among ns i
+pub among_if : (ns : List ℕ) (i : ℕ) → is_among ns i ≡ true → Among ns i
 unfolding is_among
 among_if [] i e = both_ways false refl e
 among_if (n ∷ ns) i e = ⊎_elim (λ same. inl (eqb-true i n same)) (λ more. inr (among_if ns i more)) (or_cases _ _ e)
 
-if_among : (ns : List ℕ) (i : ℕ) → Among ns i → is_among ns i ≡ true
+pub if_among : (ns : List ℕ) (i : ℕ) → Among ns i → is_among ns i ≡ true
 unfolding is_among
 if_among [] i h = absurd h
 if_among (n ∷ ns) i h = ⊎_elim (λ same. or_left _ _ (eq-eqb i n same)) (λ more. or_right _ _ (if_among ns i more)) h

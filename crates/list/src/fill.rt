@@ -1,6 +1,6 @@
 // Writing a set in the list form.
 ghost use Rattle.std.specs.Prelude.{◌≡◌, ◌≤◌, [], ◌∷◌, length};
-ghost use Rattle.faults.specs.declared.fault.Form as forms;
+ghost use Rattle.faults.specs.declared.fault.Form.TheVariants as forms;
 ghost use Rattle.filling.specs.Rooms.{filling, FillingIs, wrote};
 ghost use Rattle.sets.specs.Lists.{over};
 ghost use Rattle.list.specs.Filling.{numbers_of, parts_of};
@@ -34,11 +34,11 @@ impl<S: Walking> ListSlip<S> {
         self.told
     }
 
-    /// Writes the set to the front of the memory, unless that is too short, and gives it back.
+    /// Writes the set to the front of the memory, and gives it back. A memory that is too short is refused, and stays as it is.
     pub fn fill(self, numbers: &mut [u16]) -> (S, Result<(), Fault>)
         ensures set { result.0 ≡ self.set }
-        ensures answer { result.1 ≡ filling forms.TheVariants.List (parts_of (S.Walking.meant self.set)) (numbers.old ∷ []) }
-        ensures law { FillingIs forms.TheVariants.List (parts_of (S.Walking.meant self.set)) (numbers.old ∷ []) result.1 }
+        ensures answer { result.1 ≡ filling forms.List (parts_of (S.Walking.meant self.set)) (numbers.old ∷ []) }
+        ensures law { FillingIs forms.List (parts_of (S.Walking.meant self.set)) (numbers.old ∷ []) result.1 }
         ensures writes { numbers.new ≡ wrote result.1 (numbers_of (S.Walking.meant self.set)) numbers.old }
     {
         let ListSlip { set, told } = self;

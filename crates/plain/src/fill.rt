@@ -1,6 +1,6 @@
 // Writing a set in the plain form.
 ghost use Rattle.std.specs.Prelude.{◌≡◌, [], ◌∷◌};
-ghost use Rattle.faults.specs.declared.fault.Form as forms;
+ghost use Rattle.faults.specs.declared.fault.Form.TheVariants as forms;
 ghost use Rattle.filling.specs.Rooms.{filling, FillingIs, wrote};
 ghost use Rattle.plain.specs.Filling.{bits_of, parts_of};
 
@@ -19,11 +19,11 @@ impl<S: Walking> PlainSlip<S> {
         self.told
     }
 
-    /// Writes the set to the front of the memory, unless that is too short, and gives it back.
+    /// Writes the set to the front of the memory, and gives it back. A memory that is too short is refused, and stays as it is.
     pub fn fill(self, bits: &mut [u8]) -> (S, Result<(), Fault>)
         ensures set { result.0 ≡ self.set }
-        ensures answer { result.1 ≡ filling forms.TheVariants.Plain (parts_of (S.Walking.meant self.set)) (bits.old ∷ []) }
-        ensures law { FillingIs forms.TheVariants.Plain (parts_of (S.Walking.meant self.set)) (bits.old ∷ []) result.1 }
+        ensures answer { result.1 ≡ filling forms.Plain (parts_of (S.Walking.meant self.set)) (bits.old ∷ []) }
+        ensures law { FillingIs forms.Plain (parts_of (S.Walking.meant self.set)) (bits.old ∷ []) result.1 }
         ensures writes { bits.new ≡ wrote result.1 (bits_of (S.Walking.meant self.set)) bits.old }
     {
         let PlainSlip { set, told } = self;
