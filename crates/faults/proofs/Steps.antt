@@ -1,5 +1,5 @@
 -- What a check says, and that one check after the other meets one demand after the other.
-use Rattle.std.proofs.Common.{ℕ, ◌≤◌, leb, Ok, Err, refl, inl, inr, arith}
+use Rattle.std.proofs.Common.{◌≡◌, ℕ, ◌≤◌, leb, Ok, Err, refl, inl, inr, arith}
 use Rattle.faults.specs.Checks.{Check, CheckIs, range_check, Verdict, located, first_of, Needs}
 use Rattle.faults.specs.Numbers.{flaw_number}
 use Rattle.faults.specs.declared.fault.Flaw.{Flaw}
@@ -19,3 +19,8 @@ pub then : (form : Form) (n part : ℕ) (P : Type 0) (check : Check) (rest : Ver
 then form n part P (Ok _) rest (Ok _) law on = (law, on law)
 then form n part P (Ok _) rest (Err e) law on = inr (law, on law)
 then form n part P (Err e) rest verdict law on = inl (law.0, refl, refl, law.1)
+
+-- a check that asks for what holds has nothing to refuse
+pub passed : (n : ℕ) (P : Type 0) (check : Check) → CheckIs n P check → P → check ≡ Ok tt
+passed n P (Ok _) law h = refl
+passed n P (Err e) law h = absurd (law.1 h)

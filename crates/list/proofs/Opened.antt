@@ -1,11 +1,11 @@
 -- The numbers of a set are opened, and stand for it; and what is opened are the numbers of the set that it stands for.
-use Rattle.std.proofs.Common.{◌≡◌, ℕ, Bool, cond, List, length, Ok, Err, refl, subst, inl, arith}
+use Rattle.std.proofs.Common.{◌≡◌, ℕ, Bool, List, length, Ok, Err, refl, subst, inl, arith}
 use Rattle.std.specs.Bool.{one_answer}
-use Rattle.std.proofs.lemmas.Bool.{cond_both, le-leb, both_ways}
+use Rattle.std.proofs.lemmas.Bool.{cond_both, both_ways}
 use Rattle.faults.specs.Checks.{Check, CheckIs, last_check, located, first_of, Needs, Accepted}
 use Rattle.faults.specs.declared.fault.Flaw.TheVariants.{Numbers, Content}
 use Rattle.faults.specs.declared.fault.Form as forms
-use Rattle.faults.proofs.Steps.{range_law, then}
+use Rattle.faults.proofs.Steps.{range_law, then, passed}
 use Rattle.sets.specs.declared.Sort.TheVariants.{Members}
 use Rattle.sets.specs.Made.{made_length}
 use Rattle.sets.specs.Sets.{LastBay, Sized}
@@ -22,12 +22,17 @@ use Rattle.list.proofs.Members.{among_if, if_among, place_of, decodes}
 
 -- ---- filled and opened
 
-last_taken : (u : ℕ) → LastBay u → last_check u ≡ Ok tt
-last_taken u h i = cond (le-leb 1 u h.0 i) (cond (le-leb u 65535 h.1 i) (Ok tt) (Err Numbers)) (Err Numbers)
+rises_law : (u : ℕ) (ns : List ℕ) → CheckIs 3 (RisesWithin u ns) (list_check u ns)
+rises_law u ns =
+    cond_both (rises u 1 ns) (Ok tt) (Err Content) (CheckIs 3 (RisesWithin u ns))
+    (λ e. lawful_if u 1 ns e)
+    (λ e. (refl, λ h. both_ways _ e (rises_if u 1 ns h.0 h.1)))
 
 taken : (u : ℕ) (ns : List ℕ) → LastBay u → RisesWithin u ns → opening u ns ≡ Ok tt
-taken u ns h r i =
-    first_of (located forms.TheVariants.List 0 (last_taken u h i)) (located forms.TheVariants.List 1 (cond (rises_if u 1 ns r.0 r.1 i) (Ok tt) (Err Content)))
+taken u ns h r =
+    let last = passed 1 (LastBay u) (last_check u) (range_law Numbers 1 65535 u) h in
+    let list = passed 3 (RisesWithin u ns) (list_check u ns) (rises_law u ns) r in
+    λ i. first_of (located forms.TheVariants.List 0 (last i)) (located forms.TheVariants.List 1 (list i))
 
 pub opened : (s : List Bool) → Sized s → opening (length s) (numbers_of s) ≡ Ok tt
 opened s h = taken (length s) (numbers_of s) h (numbers_rise s)
@@ -39,12 +44,6 @@ stands s =
     made_again s (is_among ns) (λ i l h. one_answer _ _ (among_if ns i, if_among ns i) (law.all i, law.only i))
 
 -- ---- opened and filled
-
-rises_law : (u : ℕ) (ns : List ℕ) → CheckIs 3 (RisesWithin u ns) (list_check u ns)
-rises_law u ns =
-    cond_both (rises u 1 ns) (Ok tt) (Err Content) (CheckIs 3 (RisesWithin u ns))
-    (λ e. lawful_if u 1 ns e)
-    (λ e. (refl, λ h. both_ways _ e (rises_if u 1 ns h.0 h.1)))
 
 last_of : (n part : ℕ) (P : Type 0) (check : Check) → CheckIs n P check → Needs forms.TheVariants.List n part P Accepted (located forms.TheVariants.List part check)
 last_of n part P (Ok _) law = (law, tt)

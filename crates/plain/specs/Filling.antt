@@ -1,5 +1,5 @@
 -- What a set takes in the plain form.
-use Rattle.std.specs.Prelude.{◌≡◌, ℕ, Bool, List, [], ◌∷◌, length, Ok, None, slice_index, slice_index_or}
+use Rattle.std.specs.Prelude.{ℕ, Bool, List, [], ◌∷◌, length, Ok, None, slice_index, slice_index_or}
 use Rattle.faults.specs.declared.fault.Form as forms
 use Rattle.filling.specs.Layouts.{Layout}
 use Rattle.sets.specs.Sets.{is_member}
