@@ -1,11 +1,11 @@
 -- The numbers of a set are opened, and stand for it; and what is opened are the numbers of the set that it stands for.
-use Rattle.std.proofs.Common.{◌≡◌, ℕ, Bool, List, length, Ok, Err, refl, subst, inl, arith}
+use Rattle.std.proofs.Common.{◌≡◌, ℕ, Bool, List, length, Ok, Err, OnOk, refl, subst, arith}
 use Rattle.std.specs.Bool.{one_answer}
 use Rattle.std.proofs.lemmas.Bool.{cond_both, both_ways}
-use Rattle.faults.specs.Checks.{Check, CheckIs, last_check, located, first_of, Needs, Accepted}
+use Rattle.faults.specs.Checks.{Check, CheckIs, last_check, located, first_of}
 use Rattle.faults.specs.declared.fault.Flaw.TheVariants.{Numbers, Content}
 use Rattle.faults.specs.declared.fault.Form as forms
-use Rattle.faults.proofs.Steps.{range_law, then, passed}
+use Rattle.faults.proofs.Steps.{range_law, passed}
 use Rattle.sets.specs.declared.Sort.TheVariants.{Members}
 use Rattle.sets.specs.Made.{made_length}
 use Rattle.sets.specs.Sets.{LastBay, Sized}
@@ -15,7 +15,7 @@ use Rattle.sets.proofs.Same.{lists_same}
 use Rattle.list.specs.Decoding.{is_among, set_of}
 use Rattle.list.specs.Filling.{numbers_of}
 use Rattle.list.specs.Lawful.{RisesWithin, rises, list_check}
-use Rattle.list.specs.Opening.{opening, OpeningIs}
+use Rattle.list.specs.Opening.{opening}
 use Rattle.list.proofs.Lawful.{lawful_if, rises_if, inside}
 use Rattle.list.proofs.Listed.{lists_members, numbers_rise}
 use Rattle.list.proofs.Members.{among_if, if_among, place_of, decodes}
@@ -45,14 +45,11 @@ stands s =
 
 -- ---- opened and filled
 
-last_of : (n part : ℕ) (P : Type 0) (check : Check) → CheckIs n P check → Needs forms.TheVariants.List n part P Accepted (located forms.TheVariants.List part check)
-last_of n part P (Ok _) law = (law, tt)
-last_of n part P (Err e) law = inl (law.0, refl, refl, law.1)
-
-opening_law : (u : ℕ) (ns : List ℕ) → OpeningIs u ns (opening u ns)
-opening_law u ns =
-    then forms.TheVariants.List 1 0 (LastBay u) (last_check u) (Needs forms.TheVariants.List 3 1 (RisesWithin u ns) Accepted) _ (range_law Numbers 1 65535 u)
-    (λ h. last_of 3 1 (RisesWithin u ns) (list_check u ns) (rises_law u ns))
+both_passed : (u : ℕ) (ns : List ℕ) (last list : Check) → CheckIs 3 (RisesWithin u ns) list
+    → OnOk (first_of (located forms.TheVariants.List 0 last) (located forms.TheVariants.List 1 list)) (RisesWithin u ns)
+both_passed u ns (Ok _) (Ok _) law = law
+both_passed u ns (Ok _) (Err e) law = tt
+both_passed u ns (Err e) list law = tt
 
 -- what rises within the bays 1 to u is the list of the set that it stands for
 listed_again : (u : ℕ) (ns : List ℕ) → RisesWithin u ns → numbers_of (set_of u ns) ≡ ns
@@ -68,4 +65,4 @@ listed_again u ns r =
     law.all j ((same j (omega (arith, bay.0, at.1.1)) (omega (arith, bay.1, at.1.1))).1 m))
 
 pub refilled : (u : ℕ) (ns : List ℕ) → opening u ns ≡ Ok tt → numbers_of (set_of u ns) ≡ ns
-refilled u ns e = listed_again u ns (subst (OpeningIs u ns) e (opening_law u ns)).1.0
+refilled u ns e = listed_again u ns (subst (λ v. OnOk v (RisesWithin u ns)) e (both_passed u ns (last_check u) (list_check u ns) (rises_law u ns)))
