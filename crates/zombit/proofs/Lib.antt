@@ -2,7 +2,7 @@
 pub mod Places
 pub mod Room
 pub mod Decoded
-pub mod Told
+pub mod Lawful
 pub mod Checked
 pub mod Demands
 pub mod Indexed

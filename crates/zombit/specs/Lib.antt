@@ -5,3 +5,7 @@ pub mod Decoding
 pub mod Told
 pub mod Opening
 pub mod Meant
+pub mod Filling
+pub mod Measures
+pub mod Writing
+pub mod Refilling

@@ -7,16 +7,27 @@ mod asks;
 mod blocks;
 mod checks;
 mod counts;
+mod fill;
 mod find;
 mod in_block;
 mod index;
 mod kind;
+mod measuring;
 mod open;
+mod refill;
 mod rows;
+mod seen;
+mod slip;
 mod source;
+mod told;
+mod write;
 
 pub use index::Zombit;
+pub use measuring::measure;
+pub use refill::{fills_keep, refills_return};
+pub use slip::ZombitSlip;
 pub use source::ZombitSource;
+pub use told::ZombitTold;
 
 /// Rows are lawful exactly if each bit is what it must be for the set that they stand for. There is nothing to run: the contract is
 /// the theorem.

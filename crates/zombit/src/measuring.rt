@@ -1,0 +1,66 @@
+// Measuring what the index of a set takes.
+ghost use Rattle.std.specs.Prelude.{◌≡◌, ◌≤◌, length};
+ghost use Rattle.bits.specs.Bits.{bytes_for};
+ghost use Rattle.zombit.specs.Blocks.{blocks_of, mixed_before};
+ghost use Rattle.zombit.specs.Filling.{uniform_bit};
+ghost use Rattle.zombit.specs.Measures.{telling, TellingIs, measuring, in_parts, MeasuringIs};
+
+use super::blocks::Blocks;
+use super::checks::check_size;
+use super::slip::ZombitSlip;
+use super::told::ZombitTold;
+use faults::{Fault, Form, Located};
+use sets::Walking;
+
+// How many blocks of the set are mixed.
+fn count_mixed<S: Walking>(set: &S, blocks: Blocks) -> u32
+    requires { blocks.last ≡ length (S.Walking.meant set.now) }
+    ensures value { result ≡ mixed_before (uniform_bit blocks.size (S.Walking.meant set.now)) (blocks_of blocks.last blocks.size) }
+    ensures few { result ≤ blocks_of blocks.last blocks.size }
+{
+    let mut mixed = 0;
+    for k in 0..blocks.count() {
+        if blocks.is_mixed(set, k) {
+            mixed += 1;
+        }
+    }
+    mixed
+}
+
+// The bytes that `n` bits take.
+fn bytes_for(n: u32) -> usize
+    ensures { result ≡ bytes_for n }
+{
+    (n as usize).div_ceil(8)
+}
+
+impl ZombitTold {
+    /// What the index of the set takes in blocks of `size` bays.
+    pub fn of<S: Walking>(set: &S, size: u32) -> Result<ZombitTold, Fault>
+        ensures answer { result ≡ telling size (S.Walking.meant set.now) }
+        ensures law { TellingIs size (S.Walking.meant set.now) result }
+    {
+        check_size(size).at(Form::Zombit, 0)?;
+        let last = set.last();
+        let blocks = Blocks { last, size };
+        let row = bytes_for(blocks.count());
+        Ok(ZombitTold {
+            last,
+            size,
+            uniform: row,
+            marked: row,
+            mixed: bytes_for(count_mixed(set, blocks) * size),
+        })
+    }
+}
+
+/// Measures what the index of the set takes in blocks of `size` bays; a refusal gives the set back.
+pub fn measure<S: Walking>(set: S, size: u32) -> Result<ZombitSlip<S>, (S, Fault)>
+    ensures answer { in_parts result ≡ measuring size set (S.Walking.meant set) }
+    ensures law { MeasuringIs size set result }
+{
+    match ZombitTold::of(&set, size) {
+        Ok(told) => Ok(ZombitSlip { set, told }),
+        Err(fault) => Err((set, fault)),
+    }
+}

@@ -1,0 +1,15 @@
+// A measured set, which is to be filled.
+ghost use Rattle.std.specs.Prelude.{◌≡◌};
+ghost use Rattle.zombit.specs.Filling.{told_of};
+ghost use Rattle.zombit.specs.Lawful.{BlockSize};
+
+use super::told::ZombitTold;
+use sets::Walking;
+
+/// A set, and what its index takes in the zombit form. It cannot be let go or copied: only `fill` spends it, and gives the set back.
+pub struct ZombitSlip<S: Walking> {
+    pub(crate) set: S,
+    pub(crate) told: ZombitTold,
+    ghost blocked: { BlockSize told.size },
+    ghost is: { told ≡ told_of told.size (S.Walking.meant set) },
+}
