@@ -89,7 +89,7 @@ mark_law u β us os =
 -- ---- the bits of M
 
 module _ (f : ℕ → Bool) (a n : ℕ) where
-  some_one : some_in f a n ≡ true → ((j : ℕ) → Place n j → f (a + j) ≡ false) → ⊥
+  pub some_one : some_in f a n ≡ true → ((j : ℕ) → Place n j → f (a + j) ≡ false) → ⊥
   some_one = found (first_from f (suc a) n) (first_law f (suc a) n)
     where
       found : (r : Option ℕ) → FirstIs f (suc a) n r → is_some r ≡ true → ((j : ℕ) → Place n j → f (a + j) ≡ false) → ⊥
@@ -98,7 +98,7 @@ module _ (f : ℕ → Bool) (a n : ℕ) where
           let at : a + (q - a) ≡ q = omega (arith, law.0) in
           both_ways _ (ap f (sym at) ∙ none (q - a) (omega (arith, law.0), omega (arith, law.1))) law.2
 
-  some_none : some_in f a n ≡ false → (j : ℕ) → Place n j → f (a + j) ≡ false
+  pub some_none : some_in f a n ≡ false → (j : ℕ) → Place n j → f (a + j) ≡ false
   some_none = found (first_from f (suc a) n) (first_law f (suc a) n)
     where
       found : (r : Option ℕ) → FirstIs f (suc a) n r → is_some r ≡ false → (j : ℕ) → Place n j → f (a + j) ≡ false

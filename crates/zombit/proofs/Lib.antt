@@ -10,3 +10,5 @@ pub mod Skips
 pub mod Found
 pub mod Counted
 pub mod Asked
+pub mod Looked
+pub mod Measured
