@@ -12,3 +12,5 @@ pub mod Counted
 pub mod Asked
 pub mod Looked
 pub mod Measured
+pub mod Written
+pub mod Mixing

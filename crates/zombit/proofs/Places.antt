@@ -8,13 +8,13 @@ use Rattle.zombit.specs.Lawful.{Place}
 pub place : (β p : ℕ) → p / β * β + p % β ≡ p
 place β p = let e = div-add-mod p β in let m = mul_comm β (p / β) in omega arith
 
-block_at : (β k j : ℕ) → j < β → (k * β + j) / β ≡ k
+pub block_at : (β k j : ℕ) → j < β → (k * β + j) / β ≡ k
 block_at β k j h =
     let one : k + 1 ≡ suc k = omega arith in
     let up = suc-mul k β in
     div-eq_of_lt-le β (omega arith) (let e = ap (λ (x : ℕ). x * β) one in omega arith)
 
-offset_at : (β k j : ℕ) → j < β → (k * β + j) % β ≡ j
+pub offset_at : (β k j : ℕ) → j < β → (k * β + j) % β ≡ j
 offset_at β k j h =
     let e = place β (k * β + j) in
     let q = ap (λ (x : ℕ). x * β) (block_at β k j h) in

@@ -1,6 +1,6 @@
 // Filling the index of a measured set.
 ghost use Rattle.std.specs.Prelude.{◌≡◌, [], ◌∷◌, Ok};
-ghost use Rattle.faults.specs.declared.fault.Form as forms;
+ghost use Rattle.faults.specs.declared.fault.Form.TheVariants as forms;
 ghost use Rattle.filling.specs.Rooms.{room_check, filling, FillingIs, wrote};
 ghost use Rattle.zombit.specs.Filling.{uniform_of, marked_of, mixed_of, parts_of};
 ghost use Rattle.zombit.specs.Opening.{part_check};
@@ -39,8 +39,8 @@ impl<S: Walking> ZombitSlip<S> {
         mixed: &mut [u8],
     ) -> (S, Result<(), Fault>)
         ensures set { result.0 ≡ self.set }
-        ensures answer { result.1 ≡ filling forms.TheVariants.Zombit (parts_of self.told.size (S.Walking.meant self.set)) (uniform.old ∷ marked.old ∷ mixed.old ∷ []) }
-        ensures law { FillingIs forms.TheVariants.Zombit (parts_of self.told.size (S.Walking.meant self.set)) (uniform.old ∷ marked.old ∷ mixed.old ∷ []) result.1 }
+        ensures answer { result.1 ≡ filling forms.Zombit (parts_of self.told.size (S.Walking.meant self.set)) (uniform.old ∷ marked.old ∷ mixed.old ∷ []) }
+        ensures law { FillingIs forms.Zombit (parts_of self.told.size (S.Walking.meant self.set)) (uniform.old ∷ marked.old ∷ mixed.old ∷ []) result.1 }
         ensures uniform { uniform.new ≡ wrote result.1 (uniform_of self.told.size (S.Walking.meant self.set)) uniform.old }
         ensures marked { marked.new ≡ wrote result.1 (marked_of self.told.size (S.Walking.meant self.set)) marked.old }
         ensures mixed { mixed.new ≡ wrote result.1 (mixed_of self.told.size (S.Walking.meant self.set)) mixed.old }

@@ -1,0 +1,64 @@
+-- What is left to show of `write_rows`.
+use Rattle.std.proofs.Common.{◌≡◌, ℕ, ◌*◌, ◌≤◌, Bool, List, length, sym, ap, ◌∙◌, subst, arith, rules}
+use Rattle.bits.specs.Bits.{bytes_for}
+use Rattle.bits.specs.Packing.{pack}
+use Rattle.bits.proofs.Packing.{pack_length}
+use Rattle.sets.specs.Lists.{over}
+use Rattle.zombit.specs.Blocks.{blocks_of}
+use Rattle.zombit.specs.Filling.{uniform_bit, marked_bit}
+use Rattle.zombit.specs.Writing.{TellsRow}
+use Rattle.zombit.proofs.Written.{over_tells, over_long}
+use Rattle.zombit.proofs.write.write_rows.Goals as goal
+
+-- so many bits as blocks were counted
+module _ (β : ℕ) (s : List Bool) (u n : ℕ) (last : u ≡ length s) (count : n ≡ blocks_of u β) where
+  blocks : n ≡ blocks_of (length s) β
+  blocks = count ∙ ap (λ (x : ℕ). blocks_of x β) last
+
+  enough : (row : ℕ → Bool) (m : ℕ) → length (pack (blocks_of (length s) β) row) ≤ m → bytes_for n ≤ m
+  enough row m room = omega (arith, room, pack_length (blocks_of (length s) β) row, ap bytes_for blocks)
+
+  whole : (row : ℕ → Bool) (old memory : List ℕ) → memory ≡ over (pack n row) old → memory ≡ over (pack (blocks_of (length s) β) row) old
+  whole row old memory e = e ∙ ap (λ (x : ℕ). over (pack x row) old) blocks
+
+  long : (row : ℕ → Bool) (old memory : List ℕ) → memory ≡ over (pack n row) old → blocks_of u β ≤ 8 * length memory
+  long row old memory e = omega (arith, over_long n row old, ap length e, count)
+
+  tells : (row : ℕ → Bool) (old memory : List ℕ) → memory ≡ over (pack n row) old → TellsRow (blocks_of u β) row memory
+  tells row old memory e = subst (λ (x : ℕ). TellsRow x row memory) count (subst (TellsRow n row) (sym e) (over_tells n row old))
+
+pub write-requires-clause-room : goal.write-requires-clause-room
+write-requires-clause-room g c =
+    enough c.args.blocks.size (g.S.Walking.meant c.args.set.now) _ _ c.requires.last c.count-count.ensures (uniform_bit c.args.blocks.size (g.S.Walking.meant c.args.set.now)) _ c.requires.room_u
+
+pub write-requires-2-clause-room : goal.write-requires-2-clause-room
+write-requires-2-clause-room g c =
+    enough c.args.blocks.size (g.S.Walking.meant c.args.set.now) _ _ c.requires.last c.count-count.ensures (marked_bit c.args.blocks.size (g.S.Walking.meant c.args.set.now)) _ c.requires.room_o
+
+pub write_mixed-requires-clause-long : goal.write_mixed-requires-clause-long
+unfolding uniform_bit
+write_mixed-requires-clause-long g c =
+    let b = c.args.blocks in
+    let s = g.S.Walking.meant c.args.set.now in
+    long b.size s b.last _ c.requires.last c.count-count.ensures (uniform_bit b.size s) _ _ (c.write.ensures (uniform_bit b.size s) (λ i m first last post. search rules))
+
+pub write_mixed-requires-clause-uniform : goal.write_mixed-requires-clause-uniform
+unfolding uniform_bit
+write_mixed-requires-clause-uniform g c =
+    let b = c.args.blocks in
+    let s = g.S.Walking.meant c.args.set.now in
+    tells b.size s b.last _ c.requires.last c.count-count.ensures (uniform_bit b.size s) _ _ (c.write.ensures (uniform_bit b.size s) (λ i m first last post. search rules))
+
+pub returns-clause-uniform : goal.returns-clause-uniform
+unfolding uniform_bit
+returns-clause-uniform g c =
+    let b = c.args.blocks in
+    let s = g.S.Walking.meant c.args.set.now in
+    whole b.size s b.last _ c.requires.last c.count-count.ensures (uniform_bit b.size s) _ _ (c.write.ensures (uniform_bit b.size s) (λ i m first last post. search rules))
+
+pub returns-clause-marked : goal.returns-clause-marked
+unfolding marked_bit
+returns-clause-marked g c =
+    let b = c.args.blocks in
+    let s = g.S.Walking.meant c.args.set.now in
+    whole b.size s b.last _ c.requires.last c.count-count.ensures (marked_bit b.size s) _ _ (c.write-2.ensures (marked_bit b.size s) (λ i m first last post. search rules))
