@@ -14,3 +14,5 @@ pub mod Looked
 pub mod Measured
 pub mod Written
 pub mod Mixing
+pub mod Encoded
+pub mod Returned

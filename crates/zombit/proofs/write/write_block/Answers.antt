@@ -16,15 +16,15 @@ loop-at-preserved g c =
     let bay = c.holds.ensures ∙ ap (is_member s) c.place.ensures in
     elim c.if-holds.branch [
       | then-holds w ↦ (
-          ap length w.mixed-is ∙ w.put.ensures.long ∙ c.loop-at.invariant.0,
-          λ n row old few room tells before.
-              place_put n start at row old (omega arith) _ (tells at (omega arith, omega arith) ∙ sym bay ∙ w.if-holds.true)
-              (w.mixed-is ∙ w.put.ensures.bits n (first_bits (start + (at - 1)) row) old (omega arith) (c.loop-at.invariant.1 n row old few room tells before) room),
-        )
+        ap length w.mixed-is ∙ w.put.ensures.long ∙ c.loop-at.invariant.0,
+        λ n row old few room tells before.
+            place_put n start at row old (omega arith) _ (tells at (omega arith, omega arith) ∙ sym bay ∙ w.if-holds.true)
+            (w.mixed-is ∙ w.put.ensures.bits n (first_bits (start + (at - 1)) row) old (omega arith) (c.loop-at.invariant.1 n row old few room tells before) room),
+      )
       | else-holds w ↦ (
-          ap length w.mixed-is ∙ c.loop-at.invariant.0,
-          λ n row old few room tells before.
-              place_kept n start at row old (omega arith) _ (tells at (omega arith, omega arith) ∙ sym bay ∙ w.if-holds.false)
-              (w.mixed-is ∙ c.loop-at.invariant.1 n row old few room tells before),
-        )
+        ap length w.mixed-is ∙ c.loop-at.invariant.0,
+        λ n row old few room tells before.
+            place_kept n start at row old (omega arith) _ (tells at (omega arith, omega arith) ∙ sym bay ∙ w.if-holds.false)
+            (w.mixed-is ∙ c.loop-at.invariant.1 n row old few room tells before),
+      )
     ]

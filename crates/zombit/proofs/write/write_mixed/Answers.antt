@@ -52,7 +52,7 @@ loop-k-init g c =
     (c.mixed_bits.ensures.value ∙ ap (bits_before b.size (bit_at c.args.uniform.now)) c.count-count.ensures) in (
       sym (ap (λ (x : ℕ). x * b.size) (count_none (λ j. not (uniform_bit b.size s j))) ∙ zero-mul b.size),
       c.clear.ensures ∙ ap (λ (x : ℕ). over (pack x (λ i. false)) c.args.mixed.now) n
-      ∙ ap (λ p. over p c.args.mixed.now) (row_none (mixed_length b.size s) (mixed_bit b.size s)),
+          ∙ ap (λ p. over p c.args.mixed.now) (row_none (mixed_length b.size s) (mixed_bit b.size s)),
     )
 
 pub write_block-requires-clause-within : goal.write_block-requires-clause-within
@@ -93,17 +93,15 @@ loop-k-preserved g c =
       | then-not-get w ↦
           let mixed = read_bit (uniform_bit b.size s) us _ k false c.requires.uniform within w.if-not-get.ensures in
           let tells = mixed_tells b.size s k (omega (arith, within, blocks b s c.requires.last)) mixed in
-          let start = c.loop-k.invariant.0 in
-          (
+          let start = c.loop-k.invariant.0 in (
             omega (arith, w.start-is, start, next, bits_here b.size (uniform_bit b.size s) k mixed),
             w.mixed-is
-            ∙ w.write_block.ensures.bits n row old (room b s c.requires.last k _ within mixed start) (enough b s c.requires.last _ c.requires.room)
-            (λ j p. ap (λ (x : ℕ). row (x + j)) start ∙ tells j p) c.loop-k.invariant.1
-            ∙ ap (λ (x : ℕ). over (pack n (first_bits x row)) old) (sym w.start-is),
+                ∙ w.write_block.ensures.bits n row old (room b s c.requires.last k _ within mixed start) (enough b s c.requires.last _ c.requires.room)
+                (λ j p. ap (λ (x : ℕ). row (x + j)) start ∙ tells j p) c.loop-k.invariant.1
+                ∙ ap (λ (x : ℕ). over (pack n (first_bits x row)) old) (sym w.start-is),
           )
       | else-not-get w ↦
-          let uniform = read_bit (uniform_bit b.size s) us _ k true c.requires.uniform within w.if-not-get.ensures in
-          (
+          let uniform = read_bit (uniform_bit b.size s) us _ k true c.requires.uniform within w.if-not-get.ensures in (
             omega (arith, w.start-is, c.loop-k.invariant.0, next, bits_on b.size (uniform_bit b.size s) k uniform),
             w.mixed-is ∙ c.loop-k.invariant.1 ∙ ap (λ (x : ℕ). over (pack n (first_bits x row)) old) (sym w.start-is),
           )
