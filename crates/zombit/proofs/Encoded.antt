@@ -1,6 +1,6 @@
 -- The rows of a set tell it, and no other rows do.
-use Rattle.std.proofs.Common.{◌≡◌, ℕ, zero, suc, ◌+◌, ◌-◌, ◌*◌, ◌/◌, ◌%◌, ◌<◌, ◌≤◌, Bool, true, false, not, ◌&&◌, ◌⊎◌, List, length, sym, refl, ap, ◌∙◌, inl, inr, ⊎_elim, mod-lt, arith}
-use Rattle.std.proofs.lemmas.Bool.{cases_Bool, cases_lt, both_ways, cond-true, cond-false, and_cases, and_left, and_right, and_parts, not-true, not-false, not_from_true, not_from_false}
+use Rattle.std.proofs.Common.{◌≡◌, ℕ, zero, suc, ◌+◌, ◌-◌, ◌*◌, ◌/◌, ◌%◌, ◌<◌, ◌≤◌, Bool, true, false, not, List, length, sym, refl, ap, ◌∙◌, inl, inr, ⊎_elim, mod-lt, arith}
+use Rattle.std.proofs.lemmas.Bool.{cases_Bool, cases_lt, both_ways, cond-true, cond-false, and_cases, and_left, and_right, not-true, not-false, not_from_false}
 use Rattle.sets.specs.declared.Sort.TheVariants.{Members}
 use Rattle.sets.specs.Made.{set_by, made_length}
 use Rattle.sets.specs.Sets.{is_member}
@@ -8,12 +8,12 @@ use Rattle.sets.proofs.Bays.{is_beyond, is_none}
 use Rattle.sets.proofs.Made.{made_is, made_outside}
 use Rattle.sets.proofs.Same.{sets_by_members}
 use Rattle.zombit.specs.Blocks.{blocks_of, bits_before, in_block, bay_in}
-use Rattle.zombit.specs.Filling.{has_member, has_other, is_mixed, uniform_bit, marked_bit, mixed_bit}
+use Rattle.zombit.specs.Filling.{has_member, has_other, uniform_bit, marked_bit, mixed_bit}
 use Rattle.zombit.specs.Lawful.{Place}
-use Rattle.zombit.specs.Told.{AllOf, UniformTold, MarkedTold, MixedTold, Told}
+use Rattle.zombit.specs.Told.{AllOf, UniformTold, MarkedTold, Told}
 use Rattle.zombit.proofs.Checked.{some_one, some_none}
 use Rattle.zombit.proofs.Looked.{uniform_at, marked_at}
-use Rattle.zombit.proofs.Mixing.{mixed_tells, bits_agree, InMixed, in_mixed}
+use Rattle.zombit.proofs.Mixing.{mixed_tells, bits_agree, in_mixed}
 use Rattle.zombit.proofs.Places.{place, block_in}
 use Rattle.zombit.proofs.Room.{mixed_room}
 

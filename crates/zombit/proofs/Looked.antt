@@ -1,19 +1,16 @@
 -- What a set says of a block: what was looked for in it, and whether it is mixed.
-use Rattle.std.proofs.Common.{◌≡◌, ℕ, suc, ◌+◌, ◌-◌, ◌*◌, ◌<◌, ◌≤◌, Bool, true, false, not, ◌&&◌, leb, List, length, is_some, Some, None, Option, ◌⊎◌, inl, inr, sym, refl, ap, subst, ◌∙◌, ⊎_elim, arith}
+use Rattle.std.proofs.Common.{◌≡◌, ℕ, suc, ◌+◌, ◌-◌, ◌<◌, ◌≤◌, Bool, true, false, not, leb, List, length, is_some, Some, None, Option, sym, ap, subst, ◌∙◌, ⊎_elim, arith}
 use Rattle.std.specs.Prelude.{MatchOption}
-use Rattle.std.proofs.lemmas.Bool.{cases_Bool, cases_lt, both_ways, leb-true, leb-false, and_parts, and_from, and_cases, not-true, not-false, not_from_true, not_from_false}
+use Rattle.std.proofs.lemmas.Bool.{cases_Bool, cases_lt, both_ways, leb-true, leb-false}
 use Rattle.sets.specs.declared.Sort.{Sort}
 use Rattle.sets.specs.declared.Sort.TheVariants.{Members, Others}
-use Rattle.sets.specs.Search.{first_from}
 use Rattle.sets.specs.Sets.{is, is_member, next_of}
 use Rattle.sets.proofs.Bays.{is_beyond, is_inside}
 use Rattle.sets.proofs.Tests.{FirstIs, first_law, first_by, first_agree, count_here, count_on}
 use Rattle.zombit.specs.Blocks.{mixed_before}
-use Rattle.zombit.specs.Filling.{has_member, has_other, is_mixed, uniform_bit, marked_bit}
-use Rattle.zombit.specs.Lawful.{Place}
+use Rattle.zombit.specs.Filling.{has_member, is_mixed, uniform_bit, marked_bit}
 use Rattle.zombit.specs.Opening.{some_in}
-use Rattle.zombit.specs.Told.{AllOf}
-use Rattle.zombit.proofs.Checked.{some_one, some_none}
+use Rattle.zombit.proofs.Checked.{some_none}
 
 -- ---- what was looked for
 

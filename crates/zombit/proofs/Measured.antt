@@ -1,8 +1,8 @@
 -- What is told of a set, and when its block size was taken.
-use Rattle.std.proofs.Common.{◌≡◌, ℕ, ◌*◌, List, Bool, length, Ok, Err, sym, refl, ap, ◌∙◌, arith}
+use Rattle.std.proofs.Common.{◌≡◌, ℕ, ◌*◌, List, Bool, length, Ok, Err, sym, ap, ◌∙◌}
 use Rattle.bits.specs.Bits.{bytes_for}
 use Rattle.bits.proofs.Packing.{pack_length}
-use Rattle.faults.specs.Checks.{Check, Verdict, CheckIs, located}
+use Rattle.faults.specs.Checks.{Check, CheckIs, located}
 use Rattle.faults.specs.declared.fault.Flaw.TheVariants.{BlockSize as WrongSize}
 use Rattle.faults.specs.declared.fault.Form.TheVariants.{Zombit}
 use Rattle.faults.proofs.Steps.{range_law}

@@ -1,7 +1,7 @@
 -- Which bits of the mixed row are those of which block.
-use Rattle.std.proofs.Common.{◌≡◌, ℕ, suc, ◌+◌, ◌-◌, ◌*◌, ◌/◌, ◌%◌, ◌<◌, ◌≤◌, Bool, true, false, not, List, length, Some, None, Option, ◌⊎◌, inl, inr, sym, refl, ap, ◌∙◌, ⊎_elim, mul-le-mul_right, suc-mul, mod-lt, arith}
-use Rattle.std.proofs.lemmas.Bool.{cases_lt, not-true}
-use Rattle.sets.specs.Search.{count_to, kth_to}
+use Rattle.std.proofs.Common.{◌≡◌, ℕ, suc, ◌+◌, ◌-◌, ◌*◌, ◌/◌, ◌%◌, ◌<◌, ◌≤◌, Bool, false, not, List, length, Some, None, Option, sym, ap, ◌∙◌, ⊎_elim, mul-le-mul_right, mod-lt, arith}
+use Rattle.std.proofs.lemmas.Bool.{not-true}
+use Rattle.sets.specs.Search.{kth_to}
 use Rattle.sets.specs.Sets.{is_member}
 use Rattle.sets.proofs.Tests.{KthIs, kth_law, kth_by, count_here, count_agree}
 use Rattle.zombit.specs.Blocks.{blocks_of, mixed_before, bits_before}

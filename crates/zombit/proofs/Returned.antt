@@ -1,5 +1,5 @@
 -- What is filled is opened, and what is opened and filled anew is the same.
-use Rattle.std.proofs.Common.{◌≡◌, ℕ, ◌<◌, ◌≤◌, Bool, List, [], ◌∷◌, length, Ok, Err, sym, refl, ap, ◌∙◌, subst, inl, inr, arith}
+use Rattle.std.proofs.Common.{◌≡◌, ℕ, ◌≤◌, Bool, List, [], ◌∷◌, length, Ok, Err, sym, refl, ap, ◌∙◌, subst, arith}
 use Rattle.faults.specs.Checks.{Check, CheckIs, last_check}
 use Rattle.faults.specs.declared.fault.Flaw.TheVariants.{Numbers, BlockSize as WrongSize}
 use Rattle.faults.proofs.Steps.{range_law}
@@ -8,19 +8,18 @@ use Rattle.sets.specs.Sets.{Sized, LastBay}
 use Rattle.bits.specs.Bits.{bit_at, bytes_for}
 use Rattle.bits.specs.Checks.{Whole, Clear, length_check, spare_check}
 use Rattle.bits.proofs.Checked.{length_law, spare_law}
-use Rattle.bits.specs.Packing.{pack, Bytes}
+use Rattle.bits.specs.Packing.{Bytes}
 use Rattle.bits.proofs.Packing.{packs, packs_only}
 use Rattle.zombit.specs.Blocks.{blocks_of, bits_before, bay_in, set_of}
-use Rattle.zombit.specs.Filling.{uniform_bit, marked_bit, mixed_bit, mixed_length, uniform_of, marked_of, mixed_of, numbers_of, parts_of}
+use Rattle.zombit.specs.Filling.{uniform_bit, marked_bit, mixed_bit, mixed_length, uniform_of, marked_of, mixed_of}
 use Rattle.zombit.specs.Lawful.{BlockSize, LawfulO, LawfulM}
 use Rattle.zombit.specs.Opening.{size_check, mark_check, mix_check, mixed_bits, part_check, opening}
-use Rattle.zombit.specs.Refilling.{RowsTell, RefillsReturn}
+use Rattle.zombit.specs.Refilling.{RefillsReturn}
 use Rattle.zombit.specs.Told.{Told}
 use Rattle.zombit.proofs.Checked.{mark_law, mix_law}
 use Rattle.zombit.proofs.Demands.{lawful, accepted}
 use Rattle.zombit.proofs.Encoded.{rows_tell, told_same, uniform_once, marked_once, mixed_once, set_told}
 use Rattle.zombit.proofs.Lawful.{lawful_told}
-use Rattle.zombit.proofs.Measured.{size_taken}
 use Rattle.zombit.proofs.Mixing.{bits_agree}
 
 -- ---- what is filled is opened

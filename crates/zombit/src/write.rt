@@ -1,10 +1,9 @@
 // Writing the rows of a set to the fronts of three memories that have room for them.
-ghost use Rattle.std.specs.Prelude.{◌≡◌, ℕ, suc, ◌+◌, ◌*◌, ◌<◌, ◌≤◌, Bool, false, List, length};
+ghost use Rattle.std.specs.Prelude.{◌≡◌, ℕ, ◌+◌, ◌*◌, ◌<◌, ◌≤◌, Bool, List, length};
 ghost use Rattle.sets.specs.Lists.{over};
-ghost use Rattle.sets.specs.Sets.{is_member};
-ghost use Rattle.bits.specs.Bits.{bit_at, bytes_for};
+ghost use Rattle.bits.specs.Bits.{bytes_for};
 ghost use Rattle.bits.specs.Packing.{pack};
-ghost use Rattle.zombit.specs.Blocks.{blocks_of, bits_before};
+ghost use Rattle.zombit.specs.Blocks.{blocks_of};
 ghost use Rattle.zombit.specs.Filling.{uniform_bit, uniform_of, marked_of, mixed_of};
 ghost use Rattle.zombit.specs.Writing.{first_bits, TellsBlock, TellsRow};
 
