@@ -2,9 +2,10 @@
 pub mod Places
 pub mod Ranks
 pub mod Sides
-pub mod Told
+pub mod Telling
 pub mod Asked
 pub mod Passing
 pub mod Checking
 pub mod Finding
 pub mod Answered
+pub mod Members

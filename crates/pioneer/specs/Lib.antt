@@ -3,3 +3,5 @@ pub mod Runs
 pub mod Decoding
 pub mod Found
 pub mod Opening
+pub mod Filling
+pub mod Refilling

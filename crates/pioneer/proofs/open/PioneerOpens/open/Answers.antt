@@ -1,5 +1,5 @@
 -- What is left to show of `PioneerOpens::open`.
-use Rattle.pioneer.proofs.Told.{decodes}
+use Rattle.pioneer.proofs.Telling.{decodes}
 use Rattle.pioneer.proofs.open.PioneerOpens.open.Goals as goal
 
 pub returns-in_err-check_all-clause-means : goal.returns-in_err-check_all-clause-means
