@@ -9,3 +9,4 @@ pub mod Checking
 pub mod Finding
 pub mod Answered
 pub mod Members
+pub mod Writing

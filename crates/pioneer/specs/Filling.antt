@@ -1,5 +1,5 @@
 -- What is written of a set in the pioneer form, and what a slip tells of it.
-use Rattle.std.specs.Prelude.{ℕ, suc, ◌-◌, Bool, not, ◌&&◌, List, [], ◌∷◌, length, Ok, None, slice_index, slice_index_or}
+use Rattle.std.specs.Prelude.{ℕ, ◌+◌, ◌-◌, Bool, not, ◌&&◌, List, [], ◌∷◌, length, Ok, None, slice_index, slice_index_or}
 use Rattle.std.specs.Option.{unwrap_or}
 use Rattle.faults.specs.declared.fault.Form as forms
 use Rattle.filling.specs.Layouts.{Layout}
@@ -20,7 +20,7 @@ begins s i = is_member s i && not (is_member s (i - 1))
 
 -- the bay behind the m-th member is no member
 abbrev pub ends : List Bool → ℕ → Bool
-ends s m = not (is_member s (suc (unwrap_or (select_of s Members m) 0)))
+ends s m = not (is_member s (unwrap_or (select_of s Members m) 0 + 1))
 
 -- a bit for each bay: 1 exactly if a run begins there
 abbrev pub starts_part : List Bool → List ℕ
