@@ -1,6 +1,7 @@
 -- The check of the rows, by its definition, refuses exactly what is unlawful.
 use Rattle.std.proofs.Common.{◌≡◌, ℕ, ◌≤◌, Bool, true, not, ◌||◌, eqb, Some, None, Ok, Err, Option, sym, refl, ap, ⊎_elim, arith}
-use Rattle.faults.specs.Checks.{Check, none_found}
+use Rattle.faults.specs.Checks.{Check, CheckIs, none_found}
+use Rattle.faults.specs.Numbers.{flaw_number}
 use Rattle.faults.specs.declared.fault.Flaw.{Flaw}
 use Rattle.faults.specs.declared.fault.Flaw.TheVariants.{Unlawful}
 use Rattle.std.proofs.lemmas.Bool.{cond_both, cases_lt, both_ways, and_parts, and_from, or_cases, or_left, or_right, eqb-true, eq-eqb, ltb-true, leb-true, lt-ltb, le-leb, not-true, not-false}
@@ -37,6 +38,13 @@ module _ (u n : ℕ) (P L : ℕ → Bool) where
             both_ways _ e (and_from _ _ (eq-eqb _ _ lawful.0)
             (⊎_elim (λ less. or_left _ _ (eq-eqb n 0 (omega arith))) (λ some. or_right _ _ (lawful.1 some)) (cases_lt n 1))),
       ))
+
+  numbered : (o : Check) → Told o → CheckIs 6 (Lawful u n P L) o
+  numbered (Ok _) told = told
+  numbered (Err e) told = (ap flaw_number told.0, told.1)
+
+  pub runs_law : CheckIs 6 (Lawful u n P L) (runs_check u n P L)
+  runs_law = numbered _ runs_told
 
   -- whoever finds that the rows are lawful, or are not, answers as the check does
   accepts : (o : Check) → Told o → Lawful u n P L → Ok tt ≡ o

@@ -10,3 +10,7 @@ pub mod Finding
 pub mod Answered
 pub mod Members
 pub mod Writing
+pub mod Coding
+pub mod Demands
+pub mod Filled
+pub mod Refilled

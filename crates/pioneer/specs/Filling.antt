@@ -33,9 +33,6 @@ sums_part s = pack (count_of s) (ends s)
 abbrev pub parts_of : List Bool → List (List ℕ)
 parts_of s = starts_part s ∷ sums_part s ∷ []
 
-abbrev pub numbers_of : List Bool → List ℕ
-numbers_of s = length s ∷ count_of s ∷ []
-
 abbrev pub told_of : List Bool → PioneerTold
 told_of s = record { last = length s; count = count_of s; starts = length (starts_part s); sums = length (sums_part s) }
 
@@ -44,7 +41,7 @@ pioneer_layout = record {
   form = forms.TheVariants.Pioneer;
   size = None;
   measuring = Ok tt;
-  numbers = numbers_of;
+  numbers = λ s. length s ∷ count_of s ∷ [];
   parts = parts_of;
   opening = λ ns ps. opening (slice_index ns 0) (slice_index ns 1) (slice_index_or ps 0 []) (slice_index_or ps 1 []);
   decoding = λ ns ps. set_of (slice_index ns 0) (slice_index ns 1) (slice_index_or ps 0 []) (slice_index_or ps 1 []);

@@ -1,19 +1,19 @@
 -- What holds of the parts that are written of a set.
 use Rattle.std.specs.Prelude.{◌≡◌, ℕ, Bool, List, [], ◌∷◌, length, Ok}
-use Rattle.sets.specs.Sets.{Sized}
 use Rattle.bits.specs.Bits.{bit_at}
 use Rattle.bits.specs.Packing.{Bytes}
 use Rattle.pioneer.specs.Decoding.{Tells}
-use Rattle.pioneer.specs.Filling.{count_of, starts_part, sums_part, numbers_of, parts_of}
+use Rattle.pioneer.specs.Filling.{count_of, starts_part, sums_part, parts_of, told_of}
 use Rattle.pioneer.specs.Opening.{opening}
 use Rattle.pioneer.specs.Runs.{set_of}
 
 -- the parts of a set tell its runs
 abbrev pub FillsTell : Type 0
-FillsTell = (s : List Bool) → Sized s → Tells (length s) (count_of s) (bit_at (starts_part s)) (bit_at (sums_part s)) s
+FillsTell = (s : List Bool) → Tells (length s) (count_of s) (bit_at (starts_part s)) (bit_at (sums_part s)) s
 
--- an opened index has the numbers and the parts of the set that it stands for
+-- an opened index is told as it is, and its parts are those of the set that it stands for
 abbrev pub RefillsReturn : Type 0
 RefillsReturn =
     (u n : ℕ) (starts sums : List ℕ) → Bytes starts → Bytes sums → opening u n starts sums ≡ Ok tt
-    → (numbers_of (set_of u n starts sums) ≡ u ∷ n ∷ []) × (parts_of (set_of u n starts sums) ≡ starts ∷ sums ∷ [])
+    → (told_of (set_of u n starts sums) ≡ record { last = u; count = n; starts = length starts; sums = length sums })
+    × (parts_of (set_of u n starts sums) ≡ starts ∷ sums ∷ [])

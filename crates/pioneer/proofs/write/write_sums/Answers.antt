@@ -1,5 +1,5 @@
 -- What is left to show of `write_sums`.
-use Rattle.std.proofs.Common.{◌≡◌, ◌-◌, sym, ◌∙◌, arith}
+use Rattle.std.proofs.Common.{◌-◌, sym, ◌∙◌, arith}
 use Rattle.pioneer.proofs.Members.{rank_low}
 use Rattle.pioneer.proofs.Writing.{same_written, begun_written, number_within, last_written, run_written, gap_written, end_written}
 use Rattle.pioneer.proofs.write.write_sums.Goals as goal

@@ -1,5 +1,5 @@
 -- What is left to show of `PioneerSlip::fill`.
-use Rattle.std.proofs.Common.{◌≡◌, ◌≤◌, length, ap, arith}
+use Rattle.std.proofs.Common.{length, ap, arith}
 use Rattle.bits.proofs.Packing.{pack_length}
 use Rattle.pioneer.specs.Filling.{begins, ends, count_of}
 use Rattle.pioneer.proofs.slip.PioneerSlip.fill.Goals as goal

@@ -1,7 +1,7 @@
 -- What is left to show of `PioneerTold::of`.
-use Rattle.std.proofs.Common.{◌≡◌, ℕ, length, sym, ◌∙◌, ap, arith}
+use Rattle.std.proofs.Common.{◌≡◌, length, arith}
 use Rattle.bits.proofs.Packing.{pack_length}
-use Rattle.pioneer.specs.Filling.{begins, ends, count_of, starts_part, sums_part, told_of}
+use Rattle.pioneer.specs.Filling.{begins, ends, count_of, starts_part, sums_part}
 use Rattle.pioneer.proofs.told.PioneerTold.of.Goals as goal
 
 pub returns : goal.returns
