@@ -2,3 +2,4 @@
 pub mod Plays
 pub mod Whole
 pub mod Views
+pub mod Texts

@@ -5,6 +5,7 @@ mod asking;
 mod calls;
 mod exchanges;
 mod readers;
+mod text;
 
 pub use asking::ask;
 pub use calls::{Answer, Call, Exchange};

@@ -6,13 +6,17 @@ use Rattle.sets.specs.declared.Sort.{Sort}
 use Rattle.sets.specs.declared.Sort.TheVariants.{Members, Others}
 use Rattle.sets.specs.Sets.{next_of, previous_of, rank_of, select_of}
 use Rattle.plain.specs.Decoding.{set_of}
+use Rattle.plain.specs.Filling.{bits_of}
 use Rattle.plain.specs.Opening.{opening}
 use Rattle.list.specs.Opening as listing
 use Rattle.list.specs.Decoding as in_list
+use Rattle.list.specs.Filling as fill_list
 use Rattle.zombit.specs.Opening as blocking
 use Rattle.zombit.specs.Blocks as in_blocks
+use Rattle.zombit.specs.Filling as fill_blocks
 use Rattle.pioneer.specs.Opening as running
 use Rattle.pioneer.specs.Runs as in_runs
+use Rattle.pioneer.specs.Filling as fill_runs
 use Rattle.round.specs.declared.state.Report.{Report}
 use Rattle.round.specs.declared.state.Taken.{Taken}
 use Rattle.round.specs.Calls.{go_to, nearest_at}
@@ -24,7 +28,7 @@ use Rattle.worked.specs.Garage.{set_with, free, charging, sides}
 
 -- a question, its arguments and its answer
 pub data Case : Type 0 where
-  -- parts of a form, and the set that they open as
+  -- numbers and parts of a form, and the set that they open as, and that is filled as them
   opens : ℕ → List ℕ → List Bool → Case
   opens_list : ℕ → List ℕ → List Bool → Case
   opens_blocks : ℕ → ℕ → List ℕ → List ℕ → List ℕ → List Bool → Case
@@ -49,10 +53,14 @@ abbrev row : Option ℕ → ℕ → Taken
 row bay stretches = record { bay = bay; stretches = stretches }
 
 abbrev pub Right : Case → Type 0
-Right (opens u bytes s) = (opening u bytes ≡ Ok tt) × (set_of u bytes ≡ s)
-Right (opens_list u ns s) = (listing.opening u ns ≡ Ok tt) × (in_list.set_of u ns ≡ s)
-Right (opens_blocks u β us os ms s) = (blocking.opening u β us os ms ≡ Ok tt) × (in_blocks.set_of u β us os ms ≡ s)
-Right (opens_runs u n ps ls s) = (running.opening u n ps ls ≡ Ok tt) × (in_runs.set_of u n ps ls ≡ s)
+Right (opens u bytes s) = (opening u bytes ≡ Ok tt) × (set_of u bytes ≡ s) × (bits_of s ≡ bytes)
+Right (opens_list u ns s) = (listing.opening u ns ≡ Ok tt) × (in_list.set_of u ns ≡ s) × (fill_list.numbers_of s ≡ ns)
+Right (opens_blocks u β us os ms s) =
+    (blocking.opening u β us os ms ≡ Ok tt) × (in_blocks.set_of u β us os ms ≡ s)
+    × (fill_blocks.parts_of β s ≡ us ∷ os ∷ ms ∷ [])
+Right (opens_runs u n ps ls s) =
+    (running.opening u n ps ls ≡ Ok tt) × (in_runs.set_of u n ps ls ≡ s)
+    × (fill_runs.count_of s ≡ n) × (fill_runs.parts_of s ≡ ps ∷ ls ∷ [])
 Right (ranks s k i n) = rank_of s k i ≡ n
 Right (selects s k n r) = select_of s k n ≡ r
 Right (next s k i r) = next_of s k i ≡ r
