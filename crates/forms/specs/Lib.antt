@@ -7,3 +7,4 @@ pub mod Laying
 pub mod Opening
 pub mod Meant
 pub mod Stepping
+pub mod Texts

@@ -14,6 +14,7 @@ mod measuring;
 mod opened;
 mod room;
 mod sources;
+mod text;
 mod told;
 
 pub use choice::Choice;
