@@ -67,10 +67,11 @@ told_of β s = record {
   mixed = length (mixed_of β s);
 }
 
--- the form in blocks of β bays
+-- part i of a list of parts, from 0
 abbrev pub part : List (List ℕ) → ℕ → List ℕ
 part parts i = slice_index_or parts i []
 
+-- the form in blocks of β bays
 abbrev pub zombit_layout : ℕ → Layout
 zombit_layout β = record {
   form = forms.TheVariants.Zombit;

@@ -15,7 +15,10 @@ use sets::Walking;
 
 // Checks that memories of these lengths have room for the parts that are told of, in their order.
 fn check_rooms(told: ZombitTold, uniform: usize, marked: usize, mixed: usize) -> Result<(), Fault>
-    ensures { result ≡ part_check 1 (room_check told.uniform uniform) (part_check 2 (room_check told.marked marked) (part_check 3 (room_check told.mixed mixed) (Ok tt))) }
+    ensures { result ≡
+        part_check 1 (room_check told.uniform uniform)
+        (part_check 2 (room_check told.marked marked)
+        (part_check 3 (room_check told.mixed mixed) (Ok tt))) }
 {
     check_room(told.uniform, uniform).at(Form::Zombit, 1)?;
     check_room(told.marked, marked).at(Form::Zombit, 2)?;
@@ -39,7 +42,8 @@ impl<S: Walking> ZombitSlip<S> {
         mixed: &mut [u8],
     ) -> (S, Result<(), Fault>)
         ensures set { result.0 ≡ self.set }
-        ensures answer { result.1 ≡ filling forms.Zombit (parts_of self.told.size (S.Walking.meant self.set)) (uniform.old ∷ marked.old ∷ mixed.old ∷ []) }
+        ensures answer { result.1 ≡
+            filling forms.Zombit (parts_of self.told.size (S.Walking.meant self.set)) (uniform.old ∷ marked.old ∷ mixed.old ∷ []) }
         ensures law { FillingIs forms.Zombit (parts_of self.told.size (S.Walking.meant self.set)) (uniform.old ∷ marked.old ∷ mixed.old ∷ []) result.1 }
         ensures uniform { uniform.new ≡ wrote result.1 (uniform_of self.told.size (S.Walking.meant self.set)) uniform.old }
         ensures marked { marked.new ≡ wrote result.1 (marked_of self.told.size (S.Walking.meant self.set)) marked.old }
