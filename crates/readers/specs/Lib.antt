@@ -1,3 +1,4 @@
 -- The definitions of this crate.
 pub mod Claim
 pub mod Refilled
+pub mod Memories
