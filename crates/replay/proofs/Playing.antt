@@ -10,7 +10,7 @@ use Rattle.replay.specs.declared.calls.Answer.{Answer}
 use Rattle.replay.specs.declared.calls.Call.{Call}
 use Rattle.replay.specs.declared.calls.Call.TheVariants as call
 use Rattle.replay.specs.declared.calls.Exchange.{Exchange}
-use Rattle.replay.specs.Plays.{Stepped, Seen, step, room, Played, play, windows, answers_of, seen_of}
+use Rattle.replay.specs.Plays.{Outcome, Seen, step, room, Played, play, windows, answers_of, seen_of}
 use Rattle.replay.specs.Views.{calls_of}
 
 -- answers before those of r, and numbers before its memory
@@ -71,11 +71,11 @@ module _ (at at' n : ℕ) (window memory memory' : List ℕ) (within : at ≤ le
 
 module _ {f c : List Bool} {answer : Exchange → Answer} {s₀ : Report} {exchanges₀ : List Exchange} {memory₀ : List ℕ} {i at : ℕ} {s : Report} {memory : List ℕ} {exchanges : List Exchange} (g : Going f c answer s₀ exchanges₀ memory₀ i at s memory exchanges) where
   -- one call more, x: it does t, the exchange is then y, and the reader stands at s' and has come to the place at' of its memory
-  module _ (d : Exchange) {x : Call} {y : Exchange} {t : Stepped} {at' : ℕ} {s' : Report} {memory' : List ℕ} where
+  module _ (d : Exchange) {x : Call} {y : Exchange} {t : Outcome} {at' : ℕ} {s' : Report} {memory' : List ℕ} where
     pub going_more : i < length exchanges → (get_or exchanges i d).call ≡ x → y.call ≡ x → t ≡ step f c s x (take (room x) (drop at memory)) → answer y ≡ t.answer → memory' ≡ take at memory ++ (t.window ++ drop at' memory) → at' ≡ min (at + room x) (length memory) → s' ≡ t.state → Going f c answer s₀ exchanges₀ memory₀ (i + 1) at' s' memory' (set exchanges i y)
     going_more more here asked is answers writes moves state =
         let size : length t.window ≡ min (room x) (length memory - at) =
-        ap (λ (u : Stepped). length u.window) is ∙ same_size f c s x (take (room x) (drop at memory)) ∙ length-take (room x) (drop at memory)
+        ap (λ (u : Outcome). length u.window) is ∙ same_size f c s x (take (room x) (drop at memory)) ∙ length-take (room x) (drop at memory)
         ∙ ap (min (room x)) (length-drop at memory) in
         let before = map answer (take i exchanges) in
         let unplayed : drop (suc i) exchanges ≡ drop (i + 1) (set exchanges i y) =

@@ -16,8 +16,8 @@ use Rattle.round.proofs.Taking.{bay_of as bay_list, next_made, sheet_made}
 use Rattle.round.proofs.Ways.{steps_up}
 use Rattle.replay.specs.declared.calls.Call.{Call}
 use Rattle.replay.specs.declared.calls.Call.TheVariants as call
-use Rattle.replay.specs.Plays.{Stepped, Turn, Played, step, room, play, run, answers_of}
-use Rattle.replay.specs.Whole.{bay_of, gives, hop, skips, tells, told, bays_of, stepped_over, Passed, Kept}
+use Rattle.replay.specs.Plays.{Outcome, Turn, Played, step, room, play, run, answers_of}
+use Rattle.replay.specs.Whole.{bay_of, gives, hop, skips, tells, stretches_told, bays_of, stepped_over, Passed, Kept}
 
 same_list : (o : Option ℕ) → bay_list o ≡ bay_of o
 same_list None = refl
@@ -29,7 +29,7 @@ one_handed (Some b) = refl
 
 module _ (f c : List Bool) where
   -- what one call does
-  pub record Turned (s : Report) (x : Call) (window : List ℕ) (t : Stepped) : Type 0 where
+  pub record Turned (s : Report) (x : Call) (window : List ℕ) (t : Outcome) : Type 0 where
     pub way : Way f c s.place t.state.place (gives t.answer t.window) (skips x t.answer s.place) (tells t.answer)
     pub handed : t.state.handed ≡ s.handed + length (gives t.answer t.window)
     pub stretches : t.state.stretches ≡ s.stretches + tells t.answer
@@ -77,9 +77,9 @@ module _ (f c : List Bool) where
 
   -- what a list of calls does
   record Done (s : Report) (calls : List Call) (r : Played) : Type 0 where
-    pub way : Way f c s.place r.report.place (bays_of r.turns) (stepped_over r.turns) (told (answers_of r.turns))
+    pub way : Way f c s.place r.report.place (bays_of r.turns) (stepped_over r.turns) (stretches_told (answers_of r.turns))
     pub handed : r.report.handed ≡ s.handed + length (bays_of r.turns)
-    pub stretches : r.report.stretches ≡ s.stretches + told (answers_of r.turns)
+    pub stretches : r.report.stretches ≡ s.stretches + stretches_told (answers_of r.turns)
     pub asked : map (λ (t : Turn). t.call) r.turns ≡ calls
 
   done : (calls : List Call) (s : Report) (memory : List ℕ) → 1 ≤ s.place → Done s calls (play f c s calls memory)
@@ -92,7 +92,7 @@ module _ (f c : List Bool) where
       let up = steps_up suc s.place t.state.place bays here.way.rises in
       let on = done calls t.state (drop (room x) memory) (omega arith) in
       let r = play f c t.state calls (drop (room x) memory) in
-      let sum : tells t.answer + told (answers_of r.turns) ≡ told (t.answer ∷ answers_of r.turns) = sym (sum_by-cons tells t.answer (answers_of r.turns)) in
+      let sum : tells t.answer + stretches_told (answers_of r.turns) ≡ stretches_told (t.answer ∷ answers_of r.turns) = sym (sum_by-cons tells t.answer (answers_of r.turns)) in
       record {
         way = subst (Way f c s.place r.report.place (bays ++ bays_of r.turns) (skips x t.answer s.place ++ stepped_over r.turns)) sum
             (way_join f c _ _ _ _ _ _ _ _ _ here.way on.way);
@@ -105,7 +105,7 @@ module _ (f c : List Bool) where
   kept calls memory =
       let r = play f c fresh calls memory in
       let whole = done calls fresh memory (omega arith) in
-      let sum : told (answers_of r.turns) ≡ r.report.stretches = omega (arith, whole.stretches) in
+      let sum : stretches_told (answers_of r.turns) ≡ r.report.stretches = omega (arith, whole.stretches) in
       record {
         asked = whole.asked;
         answered = refl;

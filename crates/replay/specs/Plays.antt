@@ -13,17 +13,17 @@ use Rattle.replay.specs.declared.calls.Call.{Call}
 use Rattle.replay.specs.declared.calls.Call.TheVariants as call
 
 -- what one call does: its answer, its window and the state afterwards
-pub record Stepped : Type 0 where
+pub record Outcome : Type 0 where
   pub answer : Answer
   pub window : List ℕ
   pub state : Report
 
 -- a call that only asks
-abbrev pub asked : Answer → Report → List ℕ → Stepped
+abbrev pub asked : Answer → Report → List ℕ → Outcome
 asked a s window = record { answer = a; window = window; state = s }
 
 -- one call, with this window for a sheet
-abbrev pub step : List Bool → List Bool → Report → Call → List ℕ → Stepped
+abbrev pub step : List Bool → List Bool → Report → Call → List ℕ → Outcome
 step f c s (call.Count a b) window = asked (answer.Count (count_in f (end f c) a b)) s window
 step f c s (call.Nearest p) window = asked (answer.Nearest (nearest_at f (end f c) p)) s window
 step f c s (call.Sign n) window = asked (answer.Sign (sign_at f (end f c) n)) s window

@@ -7,14 +7,14 @@ use Rattle.replay.specs.declared.calls.Answer.{Answer}
 use Rattle.replay.specs.declared.calls.Answer.TheVariants as answer
 use Rattle.replay.specs.declared.calls.Call.{Call}
 use Rattle.replay.specs.declared.calls.Exchange.{Exchange}
-use Rattle.replay.specs.Plays.{Stepped, Seen, room, step}
+use Rattle.replay.specs.Plays.{Outcome, Seen, room, step}
 
 -- one call of a round, with this window
-abbrev pub step_of : {X Y : Type 0} {x : _} {y : _} → Round X Y x y → Call → List ℕ → Stepped
+abbrev pub step_of : {X Y : Type 0} {x : _} {y : _} → Round X Y x y → Call → List ℕ → Outcome
 step_of r x window = step (free_of r) (class_of r) r.state x window
 
 -- one call of a round, with the next numbers of a memory of which it has come to place `at`
-abbrev pub turn_of : {X Y : Type 0} {x : _} {y : _} → Round X Y x y → Call → ℕ → List ℕ → Stepped
+abbrev pub turn_of : {X Y : Type 0} {x : _} {y : _} → Round X Y x y → Call → ℕ → List ℕ → Outcome
 turn_of r x at memory = step_of r x (take (room x) (drop at memory))
 
 -- an answer that means nothing

@@ -45,8 +45,8 @@ tells (answer.Next t) = t.stretches
 tells (answer.Sheet w) = w.stretches
 tells _ = 0
 
-abbrev pub told : List Answer → ℕ
-told answers = sum_by tells answers
+abbrev pub stretches_told : List Answer → ℕ
+stretches_told answers = sum_by tells answers
 
 -- bay j is from 1 on, below the place, and in none of the rows stepped over
 abbrev pub Passed : List Row → ℕ → ℕ → Type 0
@@ -67,7 +67,7 @@ pub record KeptBy (f c : List Bool) (calls : List Call) (turns : List Turn) (see
   pub bays : HandedOut f c (stepped_over turns) seen.report.place (bays_of turns)
   pub handed : seen.report.handed ≡ length (bays_of turns)
   -- the stretches reported are those told, and the fewest that cut the bays passed
-  pub stretches : seen.report.stretches ≡ told seen.answers
+  pub stretches : seen.report.stretches ≡ stretches_told seen.answers
   pub fewest : Fewest f c (Passed (stepped_over turns) seen.report.place) seen.report.stretches
 
 -- what is seen of a list of calls on a fresh round
