@@ -56,20 +56,21 @@ Passed over place j = Between 1 place j × (In over j → ⊥)
 abbrev pub HandedOut : List Bool → List Bool → List Row → ℕ → List ℕ → Type 0
 HandedOut f c over place bays = ListOf (λ j. Passed over place j × (common f c j ≡ true)) bays
 
--- what is seen of these turns of these calls
-pub record KeptBy (f c : List Bool) (calls : List Call) (turns : List Turn) (seen : Seen) : Type 0 where
-  -- the turns are of the calls, their answers are those seen, and their windows stand at the front of the memory
-  pub asked : map (λ (t : Turn). t.call) turns ≡ calls
-  pub answered : answers_of turns ≡ seen.answers
-  pub wrote : (rest : List ℕ) × (windows turns ++ rest ≡ seen.memory)
-  pub place : (1 ≤ seen.report.place) × (seen.report.place ≤ suc (end f c))
-  -- the bays handed out are the common bays that were passed, and as many as reported
-  pub bays : HandedOut f c (stepped_over turns) seen.report.place (bays_of turns)
-  pub handed : seen.report.handed ≡ length (bays_of turns)
-  -- the stretches reported are those told, and the fewest that cut the bays passed
-  pub stretches : seen.report.stretches ≡ stretches_told seen.answers
-  pub fewest : Fewest f c (Passed (stepped_over turns) seen.report.place) seen.report.stretches
+-- a list of calls on a fresh round
+module _ (f c : List Bool) (calls : List Call) (memory : List ℕ) where
+  abbrev turns : List Turn
+  turns = (play f c fresh calls memory).turns
 
--- what is seen of a list of calls on a fresh round
-abbrev pub Kept : List Bool → List Bool → List Call → List ℕ → Seen → Type 0
-Kept f c calls memory seen = KeptBy f c calls (play f c fresh calls memory).turns seen
+  -- what is seen of it
+  pub record Kept (seen : Seen) : Type 0 where
+    -- the turns are of the calls, their answers are those seen, and their windows stand at the front of the memory
+    pub asked : map (λ (t : Turn). t.call) turns ≡ calls
+    pub answered : answers_of turns ≡ seen.answers
+    pub wrote : (rest : List ℕ) × (windows turns ++ rest ≡ seen.memory)
+    pub place : (1 ≤ seen.report.place) × (seen.report.place ≤ suc (end f c))
+    -- the bays handed out are the common bays that were passed, and as many as reported
+    pub bays : HandedOut f c (stepped_over turns) seen.report.place (bays_of turns)
+    pub handed : seen.report.handed ≡ length (bays_of turns)
+    -- the stretches reported are those told, and the fewest that cut the bays passed
+    pub stretches : seen.report.stretches ≡ stretches_told seen.answers
+    pub fewest : Fewest f c (Passed (stepped_over turns) seen.report.place) seen.report.stretches
