@@ -7,7 +7,7 @@ use super::calls::{Answer, Call};
 use round::Round;
 use sets::{Counting, Walking};
 
-/// Asks a round one call. A sheet writes into the whole of the window, and no other call touches it.
+/// Asks a round one call. A sheet has the whole window as its memory, and no other call touches it.
 pub fn ask<F: Counting, C: Walking>(
     round: &mut Round<F, C>,
     call: Call,
