@@ -9,11 +9,11 @@ use Rattle.round.specs.declared.state.Taken.{Taken}
 use Rattle.round.specs.Handed.{HandedIs}
 use Rattle.round.specs.Machine.{end, common, next_from}
 use Rattle.sets.specs.Lists.{over}
-use Rattle.round.specs.States.{fresh, handed_by, after_next}
+use Rattle.round.specs.States.{fresh, handed_by, bay_of, after_next}
 use Rattle.round.specs.Stretches.{Between, Fewest}
 use Rattle.round.proofs.Handing.{next_handed}
 use Rattle.round.proofs.Made.{Made, made_join, made_listed, made_fewest}
-use Rattle.round.proofs.Taking.{bay_of, next_made}
+use Rattle.round.proofs.Taking.{next_made}
 use Rattle.listing.specs.Listings.{Listing, before, onward, play, bays_of, listed_of, written, Complete, CompleteIn}
 use Rattle.listing.specs.declared.list.Listed.{Listed}
 use Rattle.listing.proofs.Playing.{play_step, written_whole}

@@ -9,19 +9,15 @@ use Rattle.round.specs.declared.state.Report.{Report}
 use Rattle.round.specs.Calls.{go_to}
 use Rattle.round.specs.Machine.{end, next_from}
 use Rattle.round.specs.Sheets.{sheet_from}
-use Rattle.round.specs.States.{fresh, handed_by, after_go}
+use Rattle.round.specs.States.{fresh, handed_by, bay_of, after_go}
 use Rattle.round.specs.Stretches.{Fewest}
 use Rattle.round.proofs.Made.{Way, made_none, way_over, way_join, way_listed, way_fewest}
-use Rattle.round.proofs.Taking.{bay_of as bay_list, next_made, sheet_made}
+use Rattle.round.proofs.Taking.{next_made, sheet_made}
 use Rattle.round.proofs.Ways.{steps_up}
 use Rattle.replay.specs.declared.calls.Call.{Call}
 use Rattle.replay.specs.declared.calls.Call.TheVariants as call
 use Rattle.replay.specs.Plays.{Outcome, Turn, Played, step, room, play, run, answers_of}
-use Rattle.replay.specs.Whole.{bay_of, gives, hop, skips, tells, stretches_told, bays_of, stepped_over, Passed, Kept}
-
-same_list : (o : Option ℕ) → bay_list o ≡ bay_of o
-same_list None = refl
-same_list (Some b) = refl
+use Rattle.replay.specs.Whole.{gives, hop, skips, tells, stretches_told, bays_of, stepped_over, Passed, Kept}
 
 one_handed : (o : Option ℕ) → handed_by o ≡ length (bay_of o)
 one_handed None = refl
@@ -62,7 +58,7 @@ module _ (f c : List Bool) where
   turned s call.Next window l =
       let w = next_from f c s.place in
       record {
-        way = subst (λ (bays : List ℕ). Way f c s.place w.place bays [] w.taken.stretches) (same_list w.taken.bay) (next_made f c s.place l);
+        way = next_made f c s.place l;
         handed = ap (λ (n : ℕ). s.handed + n) (one_handed w.taken.bay);
         stretches = refl;
       }

@@ -1,21 +1,16 @@
 -- What is true of a whole list of calls on a fresh round.
-use Rattle.std.specs.Prelude.{◌≡◌, ℕ, suc, ◌≤◌, Bool, true, List, [], ◌∷◌, ◌++◌, length, take, map, sum_by, Some, None, Ok, Err, Option, Result}
+use Rattle.std.specs.Prelude.{◌≡◌, ℕ, suc, ◌≤◌, Bool, true, List, [], ◌∷◌, ◌++◌, length, take, map, sum_by, Ok, Err, Result}
 use Rattle.std.specs.List.{flat_map}
 use Rattle.faults.specs.declared.fault.Refusal.{Refusal}
 use Rattle.sets.specs.Lists.{ListOf}
 use Rattle.round.specs.Machine.{end, common}
-use Rattle.round.specs.States.{fresh}
+use Rattle.round.specs.States.{fresh, bay_of}
 use Rattle.round.specs.Stretches.{Row, Between, In, Fewest}
 use Rattle.replay.specs.declared.calls.Answer.{Answer}
 use Rattle.replay.specs.declared.calls.Answer.TheVariants as answer
 use Rattle.replay.specs.declared.calls.Call.{Call}
 use Rattle.replay.specs.declared.calls.Call.TheVariants as call
 use Rattle.replay.specs.Plays.{Turn, Seen, play, windows, answers_of}
-
--- the bay that next gave
-abbrev pub bay_of : Option ℕ → List ℕ
-bay_of None = []
-bay_of (Some b) = b ∷ []
 
 -- the bays that a call handed out: in its answer, or at the front of its window
 abbrev pub gives : Answer → List ℕ → List ℕ

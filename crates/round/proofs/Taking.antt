@@ -8,15 +8,12 @@ use Rattle.round.specs.Machine.{end, common, larger, walk, next_from}
 use Rattle.round.specs.Stretches.{Between, Fewest}
 use Rattle.round.specs.Handed.{HandedIs, Stops, SheetIs, behind}
 use Rattle.round.specs.Sheets.{Page, paged, sheet_from}
+use Rattle.round.specs.States.{bay_of}
 use Rattle.round.proofs.Walks.{larger_past, walk_end, walk_here, walk_on}
 use Rattle.round.proofs.Handing.{next_handed}
 use Rattle.round.proofs.Ways.{steps_up}
 use Rattle.round.proofs.Made.{Made, made_none, made_here, made_on, made_join, made_listed, made_fewest}
 use Rattle.round.proofs.Sheeting.{sheet_full, sheet_step, Done}
-
-abbrev pub bay_of : Option ℕ → List ℕ
-bay_of None = []
-bay_of (Some b) = b ∷ []
 
 module _ (f c : List Bool) where
   abbrev WalkedTo : ℕ → ℕ → Walked → Type 0

@@ -1,5 +1,5 @@
 -- The state of a round is what its closing report shows; each call that moves it is a step.
-use Rattle.std.specs.Prelude.{ℕ, ◌+◌, Bool, List, length, Some, None, Ok, Err, Option, Result}
+use Rattle.std.specs.Prelude.{ℕ, ◌+◌, Bool, List, [], ◌∷◌, length, Some, None, Ok, Err, Option, Result}
 use Rattle.faults.specs.declared.fault.Refusal.{Refusal}
 use Rattle.round.specs.declared.state.Report.{Report}
 use Rattle.round.specs.Machine.{next_from}
@@ -12,6 +12,11 @@ fresh = record { handed = 0; stretches = 0; place = 1 }
 abbrev pub handed_by : Option ℕ → ℕ
 handed_by None = 0
 handed_by (Some q) = 1
+
+-- the bay that next handed out, where there was one
+abbrev pub bay_of : Option ℕ → List ℕ
+bay_of None = []
+bay_of (Some q) = q ∷ []
 
 abbrev pub after_next : List Bool → List Bool → Report → Report
 after_next f c s =
