@@ -12,7 +12,7 @@ use Rattle.sets.specs.Lists.{over}
 use Rattle.round.specs.States.{fresh, handed_by, bay_of, after_next}
 use Rattle.round.specs.Stretches.{Between, Fewest}
 use Rattle.round.proofs.Handing.{next_handed}
-use Rattle.round.proofs.Made.{Made, made_join, made_listed, made_fewest}
+use Rattle.round.proofs.Ways.{Made, made_join, made_listed, made_fewest}
 use Rattle.round.proofs.Taking.{next_made}
 use Rattle.listing.specs.Listings.{Listing, before, onward, play, bays_of, listed_of, written, Complete, CompleteIn}
 use Rattle.listing.specs.declared.list.Listed.{Listed}

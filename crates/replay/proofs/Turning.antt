@@ -11,9 +11,9 @@ use Rattle.round.specs.Machine.{end, next_from}
 use Rattle.round.specs.Sheets.{sheet_from}
 use Rattle.round.specs.States.{fresh, handed_by, bay_of, after_go}
 use Rattle.round.specs.Stretches.{Fewest}
-use Rattle.round.proofs.Made.{Way, made_none, way_over, way_join, way_listed, way_fewest}
+use Rattle.round.proofs.Ways.{Way, made_none, way_over, way_join, way_listed, way_fewest}
 use Rattle.round.proofs.Taking.{next_made, sheet_made}
-use Rattle.round.proofs.Ways.{steps_up}
+use Rattle.round.proofs.Steps.{steps_up}
 use Rattle.replay.specs.declared.calls.Call.{Call}
 use Rattle.replay.specs.declared.calls.Call.TheVariants as call
 use Rattle.replay.specs.Plays.{Outcome, Turn, Played, step, room, play, run, answers_of}

@@ -5,7 +5,7 @@ use Rattle.faults.specs.declared.fault.Refusal.{Refusal}
 use Rattle.sets.specs.Lists.{ListOf}
 use Rattle.round.specs.Machine.{end, common}
 use Rattle.round.specs.States.{fresh, bay_of}
-use Rattle.round.specs.Stretches.{Row, Between, In, Fewest}
+use Rattle.round.specs.Stretches.{Row, Clear, Fewest}
 use Rattle.replay.specs.declared.calls.Answer.{Answer}
 use Rattle.replay.specs.declared.calls.Answer.TheVariants as answer
 use Rattle.replay.specs.declared.calls.Call.{Call}
@@ -45,7 +45,7 @@ stretches_told answers = sum_by tells answers
 
 -- bay j is from 1 on, below the place, and in none of the rows stepped over
 abbrev pub Passed : List Row → ℕ → ℕ → Type 0
-Passed over place j = Between 1 place j × (In over j → ⊥)
+Passed over place = Clear 1 place over
 
 -- the bays are the common bays that were passed, each once and rising
 abbrev pub HandedOut : List Bool → List Bool → List Row → ℕ → List ℕ → Type 0

@@ -2,8 +2,8 @@
 pub mod Walks
 pub mod Greedy
 pub mod Handing
+pub mod Steps
 pub mod Ways
-pub mod Made
 pub mod Sheeting
 pub mod Taking
 pub mod Rounds

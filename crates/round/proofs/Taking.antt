@@ -11,8 +11,8 @@ use Rattle.round.specs.Sheets.{Page, paged, sheet_from}
 use Rattle.round.specs.States.{bay_of}
 use Rattle.round.proofs.Walks.{larger_past, walk_end, walk_here, walk_on}
 use Rattle.round.proofs.Handing.{next_handed}
-use Rattle.round.proofs.Ways.{steps_up}
-use Rattle.round.proofs.Made.{Made, made_none, made_here, made_on, made_join, made_listed, made_fewest}
+use Rattle.round.proofs.Steps.{steps_up}
+use Rattle.round.proofs.Ways.{Made, made_none, made_here, made_on, made_join, made_listed, made_fewest}
 use Rattle.round.proofs.Sheeting.{sheet_full, sheet_step, Done}
 
 module _ (f c : List Bool) where

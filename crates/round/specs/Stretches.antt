@@ -20,6 +20,10 @@ Has j r = Between r.first r.past j
 abbrev pub In : List Row → ℕ → Type 0
 In rows j = Any (Has j) rows
 
+-- j is p or above, and below q, and in none of the rows
+abbrev pub Clear : ℕ → ℕ → List Row → ℕ → Type 0
+Clear p q rows j = Between p q j × (In rows j → ⊥)
+
 -- no bay is in two of the rows
 abbrev pub Apart : List Row → Type 0
 Apart [] = Unit {0}
