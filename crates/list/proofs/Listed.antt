@@ -5,7 +5,8 @@ use Rattle.sets.specs.declared.Sort.TheVariants.{Members}
 use Rattle.sets.specs.Lists.{Among, Each, Rising}
 use Rattle.sets.specs.Sets.{is_member}
 use Rattle.sets.proofs.Bays.{is_bay}
-use Rattle.list.specs.Filling.{numbers_of, ListsMembers}
+use Rattle.list.specs.Filling.{numbers_of}
+use Rattle.list.specs.Refilling.{PartsTell}
 use Rattle.list.specs.Lawful.{RisesWithin}
 use Rattle.list.proofs.Walked.{passing, passing_here, passing_on}
 
@@ -58,7 +59,7 @@ module _ (f : ℕ → Bool) where
       (cases_lt p j)))
       (cases_Bool (f p))
 
-pub lists_members : ListsMembers
+pub lists_members : PartsTell
 unfolding numbers_of
 lists_members s = record {
   rising = rising_less 0 1 (numbers_of s) (omega arith) (passing_rises (is_member s) 1 (length s));

@@ -1,9 +1,8 @@
--- What a set takes in the list form.
-use Rattle.std.specs.Prelude.{◌≡◌, true, ℕ, Bool, List, [], ◌∷◌, filter, length, Ok, None, slice_index, slice_index_or}
+-- What a set takes in the list form, and its parts.
+use Rattle.std.specs.Prelude.{ℕ, Bool, List, [], ◌∷◌, filter, length, Ok, None, slice_index, slice_index_or}
 use Rattle.std.specs.List.{range_with_len}
 use Rattle.faults.specs.declared.fault.Form as forms
 use Rattle.filling.specs.Layouts.{Layout}
-use Rattle.sets.specs.Lists.{ListOf}
 use Rattle.sets.specs.Sets.{is_member}
 use Rattle.list.specs.declared.told.ListTold.{ListTold}
 use Rattle.list.specs.Decoding.{set_of}
@@ -12,10 +11,6 @@ use Rattle.list.specs.Opening.{opening}
 -- the members, as rising numbers
 unfoldable pub numbers_of : List Bool → List ℕ
 numbers_of s = filter (is_member s) (range_with_len 1 (length s))
-
--- the law of these numbers: exactly the members, each once, rising
-abbrev pub ListsMembers : Type 0
-ListsMembers = (s : List Bool) → ListOf (λ i. is_member s i ≡ true) (numbers_of s)
 
 abbrev pub parts_of : List Bool → List (List ℕ)
 parts_of s = numbers_of s ∷ []

@@ -1,4 +1,4 @@
-// Writing a set in the list form.
+// Filling a set in the list form.
 ghost use Rattle.std.specs.Prelude.{◌≡◌, ◌≤◌, [], ◌∷◌, length};
 ghost use Rattle.faults.specs.declared.fault.Form.TheVariants as forms;
 ghost use Rattle.filling.specs.Rooms.{filling, FillingIs, wrote};
@@ -27,19 +27,20 @@ fn write_members<S: Walking>(set: &S, numbers: &mut [u16])
 }
 
 impl<S: Walking> ListSlip<S> {
-    /// What opening takes of the set, and how many numbers filling writes.
+    /// What the set takes: the numbers for opening, and the length of each part.
     pub fn told(&self) -> ListTold
         ensures { result ≡ self.now.told }
     {
         self.told
     }
 
-    /// Writes the set to the front of the memory, and gives it back. A memory that is too short is refused, and stays as it is.
+    /// Writes the part to the front of its memory, and gives the set back. The memory is looked at first: where it has no room for the
+    /// part, nothing is written.
     pub fn fill(self, numbers: &mut [u16]) -> (S, Result<(), Fault>)
         ensures set { result.0 ≡ self.set }
         ensures answer { result.1 ≡ filling forms.List (parts_of (S.Walking.meant self.set)) (numbers.old ∷ []) }
         ensures law { FillingIs forms.List (parts_of (S.Walking.meant self.set)) (numbers.old ∷ []) result.1 }
-        ensures writes { numbers.new ≡ wrote result.1 (numbers_of (S.Walking.meant self.set)) numbers.old }
+        ensures numbers { numbers.new ≡ wrote result.1 (numbers_of (S.Walking.meant self.set)) numbers.old }
     {
         let ListSlip { set, told } = self;
         let room = check_room(told.numbers, numbers.len()).at(Form::List, 1);

@@ -2,8 +2,8 @@
 #![tactic(auto)]
 
 ghost use Rattle.filling.specs.Layouts.{Keeps};
-ghost use Rattle.list.specs.Filling.{list_layout, ListsMembers};
-ghost use Rattle.list.specs.Refilling.{RefillsReturn};
+ghost use Rattle.list.specs.Filling.{list_layout};
+ghost use Rattle.list.specs.Refilling.{PartsTell, RefillsReturn};
 
 mod asks;
 mod check;
@@ -27,7 +27,7 @@ pub use told::ListTold;
 /// theorem.
 pub fn fills_keep()
     ensures keeps { Keeps list_layout }
-    ensures members { ListsMembers }
+    ensures tells { PartsTell }
 {}
 
 /// What is opened and filled anew is what was opened. There is nothing to run: the contract is the theorem.

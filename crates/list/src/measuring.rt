@@ -1,4 +1,4 @@
-// How much a set takes in the list form.
+// What a set takes in the list form, measured.
 ghost use Rattle.std.specs.Prelude.{◌≡◌};
 ghost use Rattle.list.specs.Filling.{told_of};
 
@@ -7,7 +7,7 @@ use super::told::ListTold;
 use sets::{Sort, Walking};
 
 impl ListTold {
-    /// What the set takes, counted by a walk from member to member.
+    /// What the set takes.
     pub fn of<S: Walking>(set: &S) -> ListTold
         ensures { result ≡ told_of (S.Walking.meant set.now) }
     {

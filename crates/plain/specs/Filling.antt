@@ -1,9 +1,9 @@
--- What a set takes in the plain form.
+-- What a set takes in the plain form, and its parts.
 use Rattle.std.specs.Prelude.{ℕ, Bool, List, [], ◌∷◌, length, Ok, None, slice_index, slice_index_or}
 use Rattle.faults.specs.declared.fault.Form as forms
 use Rattle.filling.specs.Layouts.{Layout}
 use Rattle.sets.specs.Sets.{is_member}
-use Rattle.bits.specs.Packing.{pack, Packs}
+use Rattle.bits.specs.Packing.{pack}
 use Rattle.plain.specs.declared.told.PlainTold.{PlainTold}
 use Rattle.plain.specs.Decoding.{set_of}
 use Rattle.plain.specs.Opening.{opening}
@@ -11,10 +11,6 @@ use Rattle.plain.specs.Opening.{opening}
 -- the bitvector with a bit for each bay: bit i is 1 exactly if bay i is a member
 abbrev pub bits_of : List Bool → List ℕ
 bits_of s = pack (length s) (is_member s)
-
--- the law of these bytes
-abbrev pub PacksMembers : Type 0
-PacksMembers = (s : List Bool) → Packs (length s) (is_member s) (bits_of s)
 
 abbrev pub parts_of : List Bool → List (List ℕ)
 parts_of s = bits_of s ∷ []

@@ -1,4 +1,4 @@
-// Writing a set in the plain form.
+// Filling a set in the plain form.
 ghost use Rattle.std.specs.Prelude.{◌≡◌, [], ◌∷◌};
 ghost use Rattle.faults.specs.declared.fault.Form.TheVariants as forms;
 ghost use Rattle.filling.specs.Rooms.{filling, FillingIs, wrote};
@@ -12,19 +12,20 @@ use filling::check_room;
 use sets::Walking;
 
 impl<S: Walking> PlainSlip<S> {
-    /// What opening takes of the set, and how many bytes filling writes.
+    /// What the set takes: the numbers for opening, and the length of each part.
     pub fn told(&self) -> PlainTold
         ensures { result ≡ self.now.told }
     {
         self.told
     }
 
-    /// Writes the set to the front of the memory, and gives it back. A memory that is too short is refused, and stays as it is.
+    /// Writes the part to the front of its memory, and gives the set back. The memory is looked at first: where it has no room for the
+    /// part, nothing is written.
     pub fn fill(self, bits: &mut [u8]) -> (S, Result<(), Fault>)
         ensures set { result.0 ≡ self.set }
         ensures answer { result.1 ≡ filling forms.Plain (parts_of (S.Walking.meant self.set)) (bits.old ∷ []) }
         ensures law { FillingIs forms.Plain (parts_of (S.Walking.meant self.set)) (bits.old ∷ []) result.1 }
-        ensures writes { bits.new ≡ wrote result.1 (bits_of (S.Walking.meant self.set)) bits.old }
+        ensures bits { bits.new ≡ wrote result.1 (bits_of (S.Walking.meant self.set)) bits.old }
     {
         let PlainSlip { set, told } = self;
         let room = check_room(told.bits, bits.len()).at(Form::Plain, 1);

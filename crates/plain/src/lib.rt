@@ -2,8 +2,8 @@
 #![tactic(auto)]
 
 ghost use Rattle.filling.specs.Layouts.{Keeps};
-ghost use Rattle.plain.specs.Filling.{plain_layout, PacksMembers};
-ghost use Rattle.plain.specs.Refilling.{RefillsReturn};
+ghost use Rattle.plain.specs.Filling.{plain_layout};
+ghost use Rattle.plain.specs.Refilling.{PartsTell, RefillsReturn};
 
 mod asks;
 mod fill;
@@ -24,7 +24,7 @@ pub use told::PlainTold;
 /// theorem.
 pub fn fills_keep()
     ensures keeps { Keeps plain_layout }
-    ensures members { PacksMembers }
+    ensures tells { PartsTell }
 {}
 
 /// What is opened and filled anew is what was opened. There is nothing to run: the contract is the theorem.

@@ -1,4 +1,4 @@
-// How much a set takes in the plain form.
+// What a set takes in the plain form, measured.
 ghost use Rattle.std.specs.Prelude.{◌≡◌};
 ghost use Rattle.plain.specs.Filling.{told_of};
 
@@ -7,7 +7,7 @@ use super::told::PlainTold;
 use sets::Walking;
 
 impl PlainTold {
-    /// What the set takes: as many bytes as its bays take bits.
+    /// What the set takes.
     pub fn of<S: Walking>(set: &S) -> PlainTold
         ensures { result ≡ told_of (S.Walking.meant set.now) }
     {

@@ -5,7 +5,7 @@ ghost use Rattle.plain.specs.Filling.{told_of};
 use super::told::PlainTold;
 use sets::Walking;
 
-/// A set, and what it takes in the plain form. A slip can be neither copied nor dropped: `fill` alone spends it, and gives the set back.
+/// A set, and what it takes in the plain form. A slip can be neither copied nor let go: `fill` alone spends it, and gives the set back.
 pub struct PlainSlip<S: Walking> {
     pub(crate) set: S,
     pub(crate) told: PlainTold,

@@ -6,5 +6,5 @@ use Rattle.list.proofs.fills_keep.Goals as goal
 pub returns-clause-keeps : goal.returns-clause-keeps
 returns-clause-keeps c = λ taken s h. (opened s h, stands s)
 
-pub returns-clause-members : goal.returns-clause-members
-returns-clause-members c = lists_members
+pub returns-clause-tells : goal.returns-clause-tells
+returns-clause-tells c = lists_members

@@ -8,5 +8,5 @@ use Rattle.plain.proofs.fills_keep.Goals as goal
 pub returns-clause-keeps : goal.returns-clause-keeps
 returns-clause-keeps c = λ taken s h. (opened s h, stands s)
 
-pub returns-clause-members : goal.returns-clause-members
-returns-clause-members c = λ s. packs (length s) (is_member s)
+pub returns-clause-tells : goal.returns-clause-tells
+returns-clause-tells c = λ s. packs (length s) (is_member s)
