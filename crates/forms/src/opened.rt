@@ -1,8 +1,7 @@
 // Opening an index of any form from the fronts of two memories.
-ghost use Rattle.std.specs.Prelude.{◌≡◌, ◌≤◌, length, IfOk};
+ghost use Rattle.std.specs.Prelude.{◌≡◌, IfOk};
 ghost use Rattle.forms.specs.Meant.{meant_of, Holds};
 ghost use Rattle.forms.specs.Opening.{opening_told, decoding_told};
-ghost use Rattle.forms.specs.Telling.{bytes_told, numbers_told};
 ghost use Rattle.forms.specs.Verdicts.{verdict_of};
 
 use super::index::Index;
@@ -26,11 +25,9 @@ fn opened<X: Opens>(index: X, source: X::Source) -> Result<X, Fault>
     Ok(index)
 }
 
-/// Opens the index whose parts stand at the fronts of the two memories, at the lengths and with the numbers told. It asks for
-/// memories that are at least as long as the parts.
+/// Opens the index whose parts stand at the fronts of the two memories, at the lengths and with the numbers told. A part that is
+/// longer than what is left of its memory is what is left.
 pub fn open<'a>(told: Told, bytes: &'a [u8], numbers: &'a [u16]) -> Result<Index<'a>, Fault>
-    requires bytes { bytes_told told ≤ length bytes.now }
-    requires numbers { numbers_told told ≤ length numbers.now }
     ensures answer { verdict_of result ≡ opening_told told bytes.now numbers.now }
     ensures holds { IfOk result (λ index. Holds index told bytes.now numbers.now) }
     ensures means { IfOk result (λ index. meant_of index ≡ decoding_told told bytes.now numbers.now) }
