@@ -18,19 +18,19 @@ use Rattle.forms.specs.Telling.{told_of, bytes_told, numbers_told}
 use Rattle.forms.proofs.Rooms.{rooms_cut, rooms_law, rooms_fit, lengths_sum}
 
 -- what measuring checks
-abbrev size_of : Choice → Check
-size_of Plain = Ok tt
-size_of Listed = Ok tt
-size_of (Zombit β) = size_check β
-size_of Pioneer = Ok tt
+abbrev size_checked : Choice → Check
+size_checked Plain = Ok tt
+size_checked Listed = Ok tt
+size_checked (Zombit β) = size_check β
+size_checked Pioneer = Ok tt
 
-size_law : (x : Choice) → CheckIs 4 (SizeFits x) (size_of x)
+size_law : (x : Choice) → CheckIs 4 (SizeFits x) (size_checked x)
 size_law Plain = tt
 size_law Listed = tt
 size_law (Zombit β) = range_law BlockSize 2 4096 β
 size_law Pioneer = tt
 
-measuring_is : (x : Choice) → (layout_of x).measuring ≡ located (layout_of x).form 0 (size_of x)
+measuring_is : (x : Choice) → (layout_of x).measuring ≡ located (layout_of x).form 0 (size_checked x)
 measuring_is Plain = refl
 measuring_is Listed = refl
 measuring_is (Zombit β) = refl
@@ -96,7 +96,7 @@ module _ (x : Choice) (s : List Bool) (bytes numbers : List ℕ) where
   pub laying_law : LayingIs x s bytes numbers (laying x s bytes numbers)
   laying_law =
       subst (λ v. LayingIs x s bytes numbers (first_of v filled)) (sym (measuring_is x))
-      (then (layout_of x).form 4 0 (SizeFits x) (size_of x) RoomsAre filled (size_law x) (λ h. filled_law))
+      (then (layout_of x).form 4 0 (SizeFits x) (size_checked x) RoomsAre filled (size_law x) (λ h. filled_law))
 
   -- filling is refused by measuring, and then where the rooms for what is told are
   pub laying_rooms : laying x s bytes numbers ≡ first_of (layout_of x).measuring (rooms_told (told_of x s) (length bytes) (length numbers))
@@ -105,6 +105,6 @@ module _ (x : Choice) (s : List Bool) (bytes numbers : List ℕ) where
   -- with such blocks and memories that are long enough, nothing is refused
   pub laying_ok : SizeFits x → length (bytes_of x s) ≤ length bytes → length (numbers_of x s) ≤ length numbers → laying x s bytes numbers ≡ Ok tt
   laying_ok size b n =
-      let taken = measuring_is x ∙ ap (located (layout_of x).form 0) (passed 4 (SizeFits x) (size_of x) (size_law x) size) in
+      let taken = measuring_is x ∙ ap (located (layout_of x).form 0) (passed 4 (SizeFits x) (size_checked x) (size_law x) size) in
       let fit = filled_rooms ∙ rooms_fit (layout_of x).form 1 (lengths (layout_of x) s) (length memory) (parts_fit x s bytes numbers b n) in
       λ i. first_of (taken i) (fit i)

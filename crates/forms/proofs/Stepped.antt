@@ -23,10 +23,10 @@ use Rattle.forms.proofs.Keeping.{keeps}
 use Rattle.forms.proofs.Laid.{both_ok}
 
 pub tells_layout : TellsLayout
-tells_layout Plain s = (refl, refl, refl)
-tells_layout Listed s = (refl, refl, refl)
-tells_layout (Zombit β) s = (refl, refl, refl)
-tells_layout Pioneer s = (refl, refl, refl)
+tells_layout Plain s = (refl, refl, refl, refl, refl)
+tells_layout Listed s = (refl, refl, refl, refl, refl)
+tells_layout (Zombit β) s = (refl, refl, refl, refl, refl)
+tells_layout Pioneer s = (refl, refl, refl, refl, refl)
 
 -- the memory that the parts go to, once they are written
 memory_written : (x : Choice) (s : List Bool) (bytes numbers : List ℕ)

@@ -1,5 +1,8 @@
 -- The forms to choose from, by what each says of a set, and by which of two memories its parts go to: one of bytes, and one of 16-bit numbers.
+use Rattle.std.specs.Prelude.{ℕ, Option, None, Some}
 use Rattle.faults.specs.Checks.{Verdict, Needs, Accepted}
+use Rattle.faults.specs.declared.fault.Form.{Form}
+use Rattle.faults.specs.declared.fault.Form.TheVariants as names
 use Rattle.filling.specs.Layouts.{Layout}
 use Rattle.forms.specs.declared.choice.Choice.{Choice}
 use Rattle.forms.specs.declared.choice.Choice.TheVariants.{Plain, List as Listed, Zombit, Pioneer}
@@ -14,6 +17,19 @@ layout_of Plain = plain_layout
 layout_of Listed = list_layout
 layout_of (Zombit β) = zombit_layout β
 layout_of Pioneer = pioneer_layout
+
+-- which of the forms it is, and its block size
+abbrev pub form_of : Choice → Form
+form_of Plain = names.Plain
+form_of Listed = names.List
+form_of (Zombit β) = names.Zombit
+form_of Pioneer = names.Pioneer
+
+abbrev pub size_of : Choice → Option ℕ
+size_of Plain = None
+size_of Listed = None
+size_of (Zombit β) = Some β
+size_of Pioneer = None
 
 -- the form has such blocks
 abbrev pub SizeFits : Choice → Type 0

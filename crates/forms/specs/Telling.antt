@@ -5,7 +5,7 @@ use Rattle.forms.specs.declared.choice.Choice.{Choice}
 use Rattle.forms.specs.declared.choice.Choice.TheVariants as choices
 use Rattle.forms.specs.declared.told.Told.{Told}
 use Rattle.forms.specs.declared.told.Told.TheVariants.{Plain, List as Listed, Zombit, Pioneer}
-use Rattle.forms.specs.Choices.{layout_of, by_width}
+use Rattle.forms.specs.Choices.{layout_of, form_of, size_of, by_width}
 use Rattle.plain.specs.Filling as plain
 use Rattle.list.specs.Filling as list
 use Rattle.zombit.specs.Filling as zombit
@@ -46,10 +46,12 @@ bytes_told t = by_width (choice_told t) (sum (lengths_told t)) 0
 abbrev pub numbers_told : Told → ℕ
 numbers_told t = by_width (choice_told t) 0 (sum (lengths_told t))
 
--- the law of what is told of a set: it is what the form of the choice says of it
+-- the law of what is told of a set: it is what the form of the choice says of it, and that is the form chosen, with its block size
 abbrev pub TellsLayout : Type 0
 TellsLayout =
     (x : Choice) (s : List Bool)
     → (choice_told (told_of x s) ≡ x)
     × (opening_numbers (told_of x s) ≡ (layout_of x).numbers s)
     × (lengths_told (told_of x s) ≡ lengths (layout_of x) s)
+    × ((layout_of x).form ≡ form_of x)
+    × ((layout_of x).size ≡ size_of x)
