@@ -11,7 +11,7 @@ use Rattle.std.proofs.lemmas.List.{length-append}
 use Rattle.zombit.specs.Opening.{size_check}
 use Rattle.forms.specs.declared.choice.Choice.{Choice}
 use Rattle.forms.specs.declared.choice.Choice.TheVariants.{Plain, List as Listed, Zombit, Pioneer}
-use Rattle.forms.specs.Choices.{layout_of, by_width, SizeFits}
+use Rattle.forms.specs.Choices.{layout_of, by_width, SizeFits, Measures}
 use Rattle.forms.specs.Cutting.{rooms_in, RoomsIn}
 use Rattle.forms.specs.Laying.{bytes_of, numbers_of, pieces, laying, LayingIs, rooms_told}
 use Rattle.forms.specs.Telling.{told_of, bytes_told, numbers_told}
@@ -35,6 +35,9 @@ measuring_is Plain = refl
 measuring_is Listed = refl
 measuring_is (Zombit β) = refl
 measuring_is Pioneer = refl
+
+pub measures : Measures
+measures x size = measuring_is x ∙ ap (located (layout_of x).form 0) (passed 4 (SizeFits x) (size_checked x) (size_law x) size)
 
 -- where all is well, measuring did not refuse, nor did filling
 pub both_ok : (v w : Verdict) → first_of v w ≡ Ok tt → (v ≡ Ok tt) × (w ≡ Ok tt)
@@ -105,6 +108,5 @@ module _ (x : Choice) (s : List Bool) (bytes numbers : List ℕ) where
   -- with such blocks and memories that are long enough, nothing is refused
   pub laying_ok : SizeFits x → length (bytes_of x s) ≤ length bytes → length (numbers_of x s) ≤ length numbers → laying x s bytes numbers ≡ Ok tt
   laying_ok size b n =
-      let taken = measuring_is x ∙ ap (located (layout_of x).form 0) (passed 4 (SizeFits x) (size_checked x) (size_law x) size) in
       let fit = filled_rooms ∙ rooms_fit (layout_of x).form 1 (lengths (layout_of x) s) (length memory) (parts_fit x s bytes numbers b n) in
-      λ i. first_of (taken i) (fit i)
+      λ i. first_of (measures x size i) (fit i)

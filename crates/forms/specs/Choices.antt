@@ -1,5 +1,5 @@
 -- The forms to choose from, by what each says of a set, and by which of two memories its parts go to: one of bytes, and one of 16-bit numbers.
-use Rattle.std.specs.Prelude.{ℕ, Option, None, Some}
+use Rattle.std.specs.Prelude.{◌≡◌, ℕ, Option, None, Some, Ok}
 use Rattle.faults.specs.Checks.{Verdict, Needs, Accepted}
 use Rattle.faults.specs.declared.fault.Form.{Form}
 use Rattle.faults.specs.declared.fault.Form.TheVariants as names
@@ -41,6 +41,10 @@ SizeFits Pioneer = Unit {0}
 -- measuring refuses blocks that the form does not have, and nothing else
 abbrev pub MeasuringIs : Choice → Verdict → Type 0
 MeasuringIs x = Needs (layout_of x).form 4 0 (SizeFits x) Accepted
+
+-- so a form measures in all blocks that it has
+abbrev pub Measures : Type 0
+Measures = (x : Choice) → SizeFits x → (layout_of x).measuring ≡ Ok tt
 
 -- the first for a form whose parts are bytes, the second for the one whose part is 16-bit numbers
 abbrev pub by_width : {A : Type 0} → Choice → A → A → A

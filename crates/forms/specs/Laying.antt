@@ -1,5 +1,5 @@
 -- What filling a set in a chosen form answers, and what it writes to the fronts of a memory of bytes and one of 16-bit numbers.
-use Rattle.std.specs.Prelude.{ℕ, Bool, List, [], length}
+use Rattle.std.specs.Prelude.{◌≡◌, ℕ, ◌≤◌, Bool, List, [], length, Ok}
 use Rattle.std.specs.List.{concat}
 use Rattle.faults.specs.Checks.{Verdict, first_of, Needs}
 use Rattle.filling.specs.Layouts.{lengths}
@@ -30,6 +30,12 @@ abbrev pub LayingIs : Choice → List Bool → List ℕ → List ℕ → Verdict
 LayingIs x s bytes numbers =
     Needs (layout_of x).form 4 0 (SizeFits x)
     (RoomsIn (layout_of x).form 1 0 (lengths (layout_of x) s) (length (by_width x bytes numbers)))
+
+-- so with blocks that the form has, and memories as long as what is written to them, filling is not refused
+abbrev pub Fits : Type 0
+Fits =
+    (x : Choice) (s : List Bool) (bytes numbers : List ℕ)
+    → SizeFits x → length (bytes_of x s) ≤ length bytes → length (numbers_of x s) ≤ length numbers → laying x s bytes numbers ≡ Ok tt
 
 -- the first part told for which so many bytes, or 16-bit numbers, have no room
 abbrev pub rooms_told : Told → ℕ → ℕ → Verdict

@@ -2,7 +2,8 @@
 #![tactic(auto)]
 
 ghost use Rattle.filling.specs.Layouts.{Keeps};
-ghost use Rattle.forms.specs.Choices.{layout_of};
+ghost use Rattle.forms.specs.Choices.{layout_of, Measures};
+ghost use Rattle.forms.specs.Laying.{Fits};
 ghost use Rattle.forms.specs.Telling.{TellsLayout};
 ghost use Rattle.forms.specs.declared.choice.Choice.{Choice};
 
@@ -24,9 +25,12 @@ pub use opened::open;
 pub use room::check_rooms;
 pub use told::Told;
 
-/// In each form, what is filled is opened, and stands for the set; and what is told of a set is what its form says of it. There is
-/// nothing to run: the contract is the theorem.
+/// In each form, what is filled is opened, and stands for the set; what is told of a set is what its form says of it; and neither
+/// measuring nor filling is refused with a block size that the form has and memories that are long enough. There is nothing to run:
+/// the contract is the theorem.
 pub fn forms_keep()
     ensures keeps { (x : Choice) → Keeps (layout_of x) }
     ensures tells { TellsLayout }
+    ensures measures { Measures }
+    ensures fits { Fits }
 {}
