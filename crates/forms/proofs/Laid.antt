@@ -1,19 +1,17 @@
 -- Which answer of filling in a chosen form is due, and how much of the memories a set takes.
-use Rattle.std.proofs.Common.{◌≡◌, ℕ, ◌≤◌, Bool, List, length, drop, Ok, Err, refl, sym, ap, subst, ◌∙◌, arith}
+use Rattle.std.proofs.Common.{◌≡◌, ℕ, ◌≤◌, Bool, List, length, Ok, Err, refl, sym, ap, subst, ◌∙◌, arith}
 use Rattle.std.specs.List.{sum}
 use Rattle.faults.specs.Checks.{Verdict, Check, CheckIs, located, first_of}
 use Rattle.faults.specs.declared.fault.Flaw.TheVariants.{BlockSize}
 use Rattle.faults.proofs.Steps.{range_law, then, passed}
 use Rattle.filling.specs.Layouts.{lengths}
 use Rattle.filling.specs.Rooms.{filling}
-use Rattle.sets.specs.Lists.{over}
-use Rattle.std.proofs.lemmas.List.{length-append}
 use Rattle.zombit.specs.Opening.{size_check}
 use Rattle.forms.specs.declared.choice.Choice.{Choice}
 use Rattle.forms.specs.declared.choice.Choice.TheVariants.{Plain, List as Listed, Zombit, Pioneer}
 use Rattle.forms.specs.Choices.{layout_of, by_width, SizeFits, Measures}
 use Rattle.forms.specs.Cutting.{rooms_in, RoomsIn}
-use Rattle.forms.specs.Laying.{bytes_of, numbers_of, pieces, laying, LayingIs, rooms_told}
+use Rattle.forms.specs.Laying.{bytes_of, numbers_of, pieces, laying, LayingIs}
 use Rattle.forms.specs.Telling.{told_of, bytes_told, numbers_told}
 use Rattle.forms.proofs.Rooms.{rooms_cut, rooms_law, rooms_fit, lengths_sum}
 
@@ -57,14 +55,6 @@ told_numbers Listed s = lengths_sum ((layout_of Listed).parts s)
 told_numbers (Zombit β) s = refl
 told_numbers Pioneer s = refl
 
--- so the memories that were written have what is told
-over_long : (part memory : List ℕ) (n : ℕ) → n ≡ length part → n ≤ length (over part memory)
-over_long part memory n e = omega (arith, length-append part (drop (length part) memory))
-
-pub told_fits : (x : Choice) (s : List Bool) (bytes numbers : List ℕ)
-    → (bytes_told (told_of x s) ≤ length (over (bytes_of x s) bytes)) × (numbers_told (told_of x s) ≤ length (over (numbers_of x s) numbers))
-told_fits x s bytes numbers = (over_long (bytes_of x s) bytes _ (told_bytes x s), over_long (numbers_of x s) numbers _ (told_numbers x s))
-
 -- all parts fit where their memory is long enough for what is written
 parts_fit : (x : Choice) (s : List Bool) (bytes numbers : List ℕ) → length (bytes_of x s) ≤ length bytes → length (numbers_of x s) ≤ length numbers
     → sum (lengths (layout_of x) s) ≤ length (by_width x bytes numbers)
@@ -72,13 +62,6 @@ parts_fit Plain s bytes numbers b n = omega (arith, lengths_sum ((layout_of Plai
 parts_fit Listed s bytes numbers b n = omega (arith, lengths_sum ((layout_of Listed).parts s))
 parts_fit (Zombit β) s bytes numbers b n = omega (arith, lengths_sum ((layout_of (Zombit β)).parts s))
 parts_fit Pioneer s bytes numbers b n = omega (arith, lengths_sum ((layout_of Pioneer).parts s))
-
-rooms_are : (x : Choice) (s : List Bool) (bytes numbers : List ℕ)
-    → rooms_in (layout_of x).form 1 (lengths (layout_of x) s) (length (by_width x bytes numbers)) ≡ rooms_told (told_of x s) (length bytes) (length numbers)
-rooms_are Plain s bytes numbers = refl
-rooms_are Listed s bytes numbers = refl
-rooms_are (Zombit β) s bytes numbers = refl
-rooms_are Pioneer s bytes numbers = refl
 
 module _ (x : Choice) (s : List Bool) (bytes numbers : List ℕ) where
   abbrev memory : List ℕ
@@ -100,10 +83,6 @@ module _ (x : Choice) (s : List Bool) (bytes numbers : List ℕ) where
   laying_law =
       subst (λ v. LayingIs x s bytes numbers (first_of v filled)) (sym (measuring_is x))
       (then (layout_of x).form 4 0 (SizeFits x) (size_checked x) RoomsAre filled (size_law x) (λ h. filled_law))
-
-  -- filling is refused by measuring, and then where the rooms for what is told are
-  pub laying_rooms : laying x s bytes numbers ≡ first_of (layout_of x).measuring (rooms_told (told_of x s) (length bytes) (length numbers))
-  laying_rooms = ap (first_of (layout_of x).measuring) (filled_rooms ∙ rooms_are x s bytes numbers)
 
   -- with such blocks and memories that are long enough, nothing is refused
   pub laying_ok : SizeFits x → length (bytes_of x s) ≤ length bytes → length (numbers_of x s) ≤ length numbers → laying x s bytes numbers ≡ Ok tt
