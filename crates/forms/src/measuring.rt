@@ -15,7 +15,7 @@ use zombit::ZombitTold;
 
 impl Told {
     /// What the set takes in the form, unless that has no such block size.
-    pub fn of<S: Walking>(choice: Choice, set: &S) -> Result<Told, Fault>
+    pub fn of<S: Walking>(set: &S, choice: Choice) -> Result<Told, Fault>
         ensures answer { verdict_of result ≡ (layout_of choice).measuring }
         ensures law { MeasuringIs choice (verdict_of result) }
         ensures told { IfOk result (λ told. told ≡ told_of choice (S.Walking.meant set.now)) }
