@@ -28,7 +28,7 @@ impl Told {
         })
     }
 
-    /// How many bytes the parts take together; the largest number where there are more.
+    /// How many bytes the parts take together. It stops at the largest `usize`, which is the answer too where they take more.
     pub fn bytes(self) -> usize
         ensures { result ≡ min (bytes_told self) usize.MAX }
     {
