@@ -37,7 +37,7 @@ fn take_room<S: Walking>(set: &S, choice: Choice, room: Extent) -> Result<Extent
       numbers = room.numbers - numbers_told (told_of choice (S.Walking.meant set.now));
     }) }
 {
-    let told = Told::of(choice, set)?;
+    let told = Told::of(set, choice)?;
     check_rooms(told, room.bytes, room.numbers)?;
     Ok(Extent {
         bytes: room.bytes - told.bytes(),
