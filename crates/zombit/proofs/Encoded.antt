@@ -1,12 +1,9 @@
 -- The rows of a set tell it, and no other rows do.
 use Rattle.std.proofs.Common.{◌≡◌, ℕ, zero, suc, ◌+◌, ◌-◌, ◌*◌, ◌/◌, ◌%◌, ◌<◌, ◌≤◌, Bool, true, false, not, List, length, sym, refl, ap, ◌∙◌, inl, inr, ⊎_elim, mod-lt, arith}
-use Rattle.std.proofs.lemmas.Bool.{cases_Bool, cases_lt, both_ways, cond-true, cond-false, and_cases, and_left, and_right, not-true, not-false, not_from_false}
-use Rattle.sets.specs.declared.Sort.TheVariants.{Members}
-use Rattle.sets.specs.Made.{set_by, made_length}
+use Rattle.std.proofs.lemmas.Bool.{cases_Bool, both_ways, cond-true, cond-false, and_cases, and_left, and_right, not-true, not-false, not_from_false}
+use Rattle.sets.specs.Made.{set_by}
 use Rattle.sets.specs.Sets.{is_member}
-use Rattle.sets.proofs.Bays.{is_beyond, is_none}
-use Rattle.sets.proofs.Made.{made_is, made_outside}
-use Rattle.sets.proofs.Same.{sets_by_members}
+use Rattle.sets.proofs.Made.{made_again}
 use Rattle.zombit.specs.Blocks.{blocks_of, bits_before, in_block, bay_in}
 use Rattle.zombit.specs.Filling.{has_member, has_other, uniform_bit, marked_bit, mixed_bit}
 use Rattle.zombit.specs.Lawful.{Place}
@@ -130,10 +127,4 @@ module _ (β : ℕ) (s : List Bool) (U O M : ℕ → Bool) (some : 1 ≤ β) (to
       place_told k (suc ((i - 1) % β)) (block_in u β k some inside) (omega arith, omega (arith, low)) ∙ ap (is_member s) at
 
   pub set_told : t ≡ s
-  set_told = sets_by_members t s (made_length u (bay_in β U O M)) (λ i. ⊎_elim
-      (λ z. is_none t Members i (omega arith) ∙ sym (is_none s Members i (omega arith)))
-      (λ first. ⊎_elim
-      (λ past. made_outside u (bay_in β U O M) Members i past ∙ sym (is_beyond s Members i past))
-      (λ last. made_is u (bay_in β U O M) Members i first last ∙ bay_told i first last)
-      (cases_lt u i))
-      (cases_lt i 1))
+  set_told = made_again s (bay_in β U O M) bay_told

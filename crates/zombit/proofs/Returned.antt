@@ -1,8 +1,8 @@
 -- What is filled is opened, and what is opened and filled anew is the same.
-use Rattle.std.proofs.Common.{◌≡◌, ℕ, ◌≤◌, Bool, List, [], ◌∷◌, length, Ok, Err, sym, refl, ap, ◌∙◌, subst, arith}
-use Rattle.faults.specs.Checks.{Check, CheckIs, last_check}
+use Rattle.std.proofs.Common.{◌≡◌, ℕ, ◌≤◌, Bool, List, [], ◌∷◌, length, Ok, sym, ap, ◌∙◌, subst, arith}
+use Rattle.faults.specs.Checks.{last_check}
 use Rattle.faults.specs.declared.fault.Flaw.TheVariants.{Numbers, BlockSize as WrongSize}
-use Rattle.faults.proofs.Steps.{range_law}
+use Rattle.faults.proofs.Steps.{range_law, passed}
 use Rattle.sets.specs.Made.{made_length}
 use Rattle.sets.specs.Sets.{Sized, LastBay}
 use Rattle.bits.specs.Bits.{bit_at, bytes_for}
@@ -24,11 +24,6 @@ use Rattle.zombit.proofs.Mixing.{bits_agree}
 
 -- ---- what is filled is opened
 
--- a check of what holds
-check_met : (n : ℕ) (P : Type 0) (check : Check) → CheckIs n P check → P → check ≡ Ok tt
-check_met n P (Ok _) law p = refl
-check_met n P (Err e) law p = absurd (law.1 p)
-
 module _ (u β : ℕ) (us os ms : List ℕ) where
   opened : LastBay u → BlockSize β → Whole (blocks_of u β) us → Whole (blocks_of u β) os → Whole (mixed_bits u β us) ms
       → Clear (blocks_of u β) us → Clear (blocks_of u β) os → Clear (mixed_bits u β us) ms
@@ -36,16 +31,16 @@ module _ (u β : ℕ) (us os ms : List ℕ) where
   opened last size whole_u whole_o whole_m clear_u clear_o clear_m law_o law_m =
       let n = blocks_of u β in
       let m = mixed_bits u β us in
-      let last = check_met 1 (LastBay u) (last_check u) (range_law Numbers 1 65535 u) last in
-      let size = check_met 4 (BlockSize β) (size_check β) (range_law WrongSize 2 4096 β) size in
-      let whole_u = check_met 2 (Whole n us) (length_check n us) (length_law n us) whole_u in
-      let whole_o = check_met 2 (Whole n os) (length_check n os) (length_law n os) whole_o in
-      let whole_m = check_met 2 (Whole m ms) (length_check m ms) (length_law m ms) whole_m in
-      let clear_u = check_met 3 (Clear n us) (spare_check n us) (spare_law n us) clear_u in
-      let clear_o = check_met 3 (Clear n os) (spare_check n os) (spare_law n os) clear_o in
-      let clear_m = check_met 3 (Clear m ms) (spare_check m ms) (spare_law m ms) clear_m in
-      let law_o = check_met 6 (LawfulO u β (bit_at us) (bit_at os)) (mark_check u β us os) (mark_law u β us os) law_o in
-      let law_m = check_met 6 (LawfulM u β (bit_at us) (bit_at ms)) (mix_check u β us ms) (mix_law u β us ms) law_m in
+      let last = passed 1 (LastBay u) (last_check u) (range_law Numbers 1 65535 u) last in
+      let size = passed 4 (BlockSize β) (size_check β) (range_law WrongSize 2 4096 β) size in
+      let whole_u = passed 2 (Whole n us) (length_check n us) (length_law n us) whole_u in
+      let whole_o = passed 2 (Whole n os) (length_check n os) (length_law n os) whole_o in
+      let whole_m = passed 2 (Whole m ms) (length_check m ms) (length_law m ms) whole_m in
+      let clear_u = passed 3 (Clear n us) (spare_check n us) (spare_law n us) clear_u in
+      let clear_o = passed 3 (Clear n os) (spare_check n os) (spare_law n os) clear_o in
+      let clear_m = passed 3 (Clear m ms) (spare_check m ms) (spare_law m ms) clear_m in
+      let law_o = passed 6 (LawfulO u β (bit_at us) (bit_at os)) (mark_check u β us os) (mark_law u β us os) law_o in
+      let law_m = passed 6 (LawfulM u β (bit_at us) (bit_at ms)) (mix_check u β us ms) (mix_law u β us ms) law_m in
       λ i.
       part_check 0 (last i)
       (part_check 0 (size i)
