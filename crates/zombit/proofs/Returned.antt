@@ -135,4 +135,4 @@ refills_return u β us os ms bytes_u bytes_o bytes_m opened =
     let us' = uniform_back u β us os ms s long some told parts.whole_u parts.clear_u bytes_u in
     let os' = marked_back u β us os ms s long some told parts.whole_o parts.clear_o bytes_o in
     let ms' = mixed_back u β us os ms s long some told parts.whole_m parts.clear_m bytes_m in
-    (λ i. long i ∷ β ∷ [], λ i. us' i ∷ os' i ∷ ms' i ∷ [])
+    (λ i. record { last = long i; size = β; uniform = length (us' i); marked = length (os' i); mixed = length (ms' i) }, λ i. us' i ∷ os' i ∷ ms' i ∷ [])

@@ -53,10 +53,6 @@ mixed_of β s = pack (mixed_length β s) (mixed_bit β s)
 abbrev pub parts_of : ℕ → List Bool → List (List ℕ)
 parts_of β s = uniform_of β s ∷ marked_of β s ∷ mixed_of β s ∷ []
 
--- the numbers that opening takes
-abbrev pub numbers_of : ℕ → List Bool → List ℕ
-numbers_of β s = length s ∷ β ∷ []
-
 -- what a slip tells: the numbers, and the length of each part
 abbrev pub told_of : ℕ → List Bool → ZombitTold
 told_of β s = record {
@@ -77,7 +73,7 @@ zombit_layout β = record {
   form = forms.TheVariants.Zombit;
   size = Some β;
   measuring = located forms.TheVariants.Zombit 0 (size_check β);
-  numbers = numbers_of β;
+  numbers = λ s. length s ∷ β ∷ [];
   parts = parts_of β;
   opening = λ ns ps. opening (slice_index ns 0) (slice_index ns 1) (part ps 0) (part ps 1) (part ps 2);
   decoding = λ ns ps. set_of (slice_index ns 0) (slice_index ns 1) (part ps 0) (part ps 1) (part ps 2);
