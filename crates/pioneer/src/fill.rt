@@ -1,15 +1,26 @@
 // Filling a set in the pioneer form.
-ghost use Rattle.std.specs.Prelude.{◌≡◌, [], ◌∷◌};
+ghost use Rattle.std.specs.Prelude.{◌≡◌, [], ◌∷◌, Ok};
+ghost use Rattle.faults.specs.Checks.{located, first_of};
 ghost use Rattle.faults.specs.declared.fault.Form.TheVariants as forms;
-ghost use Rattle.filling.specs.Rooms.{filling, FillingIs, wrote};
+ghost use Rattle.filling.specs.Rooms.{room_check, filling, FillingIs, wrote};
 ghost use Rattle.pioneer.specs.Filling.{starts_part, sums_part, parts_of};
 
-use super::rooms::check_rooms;
 use super::slip::PioneerSlip;
 use super::told::PioneerTold;
 use super::write::{write_starts, write_sums};
-use faults::Fault;
+use faults::{Fault, Form, Located};
+use filling::check_room;
 use sets::Walking;
+
+// Checks that memories of these lengths have room for the parts that are told of, in their order.
+fn check_rooms(told: PioneerTold, starts: usize, sums: usize) -> Result<(), Fault>
+    ensures { result ≡
+        first_of (located forms.Pioneer 1 (room_check told.starts starts))
+        (first_of (located forms.Pioneer 2 (room_check told.sums sums)) (Ok tt)) }
+{
+    check_room(told.starts, starts).at(Form::Pioneer, 1)?;
+    check_room(told.sums, sums).at(Form::Pioneer, 2)
+}
 
 impl<S: Walking> PioneerSlip<S> {
     /// What the set takes.
@@ -28,13 +39,11 @@ impl<S: Walking> PioneerSlip<S> {
         ensures sums { sums.new ≡ wrote result.1 (sums_part (S.Walking.meant self.set)) sums.old }
     {
         let PioneerSlip { set, told } = self;
-        match check_rooms(told, starts, sums) {
-            Ok(()) => {
-                write_starts(&set, starts);
-                write_sums(&set, told.count, sums);
-                (set, Ok(()))
-            }
-            Err(fault) => (set, Err(fault)),
+        let checked = check_rooms(told, starts.len(), sums.len());
+        if checked.is_ok() {
+            write_starts(&set, starts);
+            write_sums(&set, told.count, sums);
         }
+        (set, checked)
     }
 }

@@ -13,7 +13,6 @@ mod find;
 mod index;
 mod measuring;
 mod open;
-mod rooms;
 mod run;
 mod slip;
 mod source;

@@ -1,9 +1,19 @@
 -- What is left to show of `write_sums`.
-use Rattle.std.proofs.Common.{◌-◌, sym, ◌∙◌, arith}
+use Rattle.std.proofs.Common.{◌≡◌, ◌-◌, ◌≤◌, List, Bool, ℕ, length, sym, ◌∙◌, arith}
+use Rattle.bits.specs.Bits.{bytes_for}
+use Rattle.bits.proofs.Packing.{pack_length}
+use Rattle.pioneer.specs.Filling.{count_of, ends, sums_part}
 use Rattle.pioneer.proofs.Members.{rank_low}
 use Rattle.pioneer.proofs.Writing.{same_written, begun_written, number_within, last_written, run_written, gap_written, end_written}
 use Rattle.pioneer.proofs.write.write_sums.Goals as goal
 use Rattle.pioneer.proofs.write.write_sums.Goals.{then-holds+then-not-holds, then-holds+else-not-holds, else-holds}
+
+-- so many bytes as the members take
+enough : (s : List Bool) (n m : ℕ) → n ≡ count_of s → length (sums_part s) ≤ m → bytes_for n ≤ m
+enough s n m all room = omega (arith, all, room, pack_length (count_of s) (ends s))
+
+pub clear-requires : goal.clear-requires
+clear-requires g c = enough (g.S.Walking.meant c.args.set.now) _ _ c.requires.all c.requires.room
 
 pub loop-i-init : goal.loop-i-init
 loop-i-init g c = begun_written _ _ _ _ c.clear.ensures
@@ -16,7 +26,7 @@ overflow_add-members g c =
 pub put-requires-clause-within : goal.put-requires-clause-within
 put-requires-clause-within g c =
     let most = number_within _ _ _ c.loop-i.i _ _ c.loop-i.auto.i c.loop-i.invariant (sym c.if-holds.true ∙ c.holds.ensures) (omega (arith, c.last-i-end.ensures)) c.requires.all in
-    omega arith
+    omega (arith, most, enough _ _ _ c.requires.all c.requires.room)
 
 pub loop-i-preserved : goal.loop-i-preserved
 loop-i-preserved g c =
@@ -27,7 +37,7 @@ loop-i-preserved g c =
       | then-holds+then-not-holds b ↦
           let member = sym b.if-holds.true ∙ c.holds.ensures in
           let most = number_within _ _ _ i _ _ l w member (omega (arith, c.last-i-end.ensures)) c.requires.all in
-          same_written _ _ _ _ _ _ _ _ b.members-is b.sums-is (last_written _ _ _ i _ _ l w _ member b.if-not-holds.ensures (b.put.ensures.bits _ _ _ most w.written c.requires.room))
+          same_written _ _ _ _ _ _ _ _ b.members-is b.sums-is (last_written _ _ _ i _ _ l w _ member b.if-not-holds.ensures (b.put.ensures.bits _ _ _ most w.written (enough _ _ _ c.requires.all c.requires.room)))
       | then-holds+else-not-holds b ↦
           same_written _ _ _ _ _ _ _ _ b.members-is b.sums-is (run_written _ _ _ i _ _ l w (sym b.if-holds.true ∙ c.holds.ensures) b.if-not-holds.ensures)
       | else-holds b ↦
