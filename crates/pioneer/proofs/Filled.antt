@@ -58,5 +58,5 @@ module _ (s : List Bool) where
   unfolding rank_of
   stands = made_again s (in_run (length s) (count_of s) P L) (λ i l h. codes_inside (length s) (is_member s) P L coded i h)
 
-  pub fills_tell : Tells (length s) (count_of s) P L s
-  fills_tell = subst (Tells (length s) (count_of s) P L) stands (tells (length s) (count_of s) P L lawful)
+  pub parts_tell : Tells (length s) (count_of s) P L s
+  parts_tell = subst (Tells (length s) (count_of s) P L) stands (tells (length s) (count_of s) P L lawful)

@@ -1,4 +1,4 @@
--- What is written of a set in the pioneer form, and what a slip tells of it.
+-- What a set takes in the pioneer form, and its parts.
 use Rattle.std.specs.Prelude.{ℕ, ◌+◌, ◌-◌, Bool, not, ◌&&◌, List, [], ◌∷◌, length, Ok, None, slice_index, slice_index_or}
 use Rattle.std.specs.Option.{unwrap_or}
 use Rattle.faults.specs.declared.fault.Form as forms

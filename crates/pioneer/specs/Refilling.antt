@@ -1,4 +1,4 @@
--- What holds of the parts that are written of a set.
+-- An opened pioneer index that is filled anew gives its own bytes.
 use Rattle.std.specs.Prelude.{◌≡◌, ℕ, Bool, List, [], ◌∷◌, length, Ok}
 use Rattle.bits.specs.Bits.{bit_at}
 use Rattle.bits.specs.Packing.{Bytes}
@@ -8,8 +8,8 @@ use Rattle.pioneer.specs.Opening.{opening}
 use Rattle.pioneer.specs.Runs.{set_of}
 
 -- the parts of a set tell its runs
-abbrev pub FillsTell : Type 0
-FillsTell = (s : List Bool) → Tells (length s) (count_of s) (bit_at (starts_part s)) (bit_at (sums_part s)) s
+abbrev pub PartsTell : Type 0
+PartsTell = (s : List Bool) → Tells (length s) (count_of s) (bit_at (starts_part s)) (bit_at (sums_part s)) s
 
 -- an opened index is told as it is, and its parts are those of the set that it stands for
 abbrev pub RefillsReturn : Type 0

@@ -23,14 +23,15 @@ fn check_rooms(told: PioneerTold, starts: usize, sums: usize) -> Result<(), Faul
 }
 
 impl<S: Walking> PioneerSlip<S> {
-    /// What the set takes.
+    /// What the set takes: the numbers for opening, and the length of each part.
     pub fn told(&self) -> PioneerTold
         ensures { result ≡ self.now.told }
     {
         self.told
     }
 
-    /// Spends the slip: writes the parts to the fronts of the memories, if each has room, and gives the set back.
+    /// Writes each part to the front of its memory, and gives the set back. All memories are looked at first: where one has no room
+    /// for its part, nothing is written.
     pub fn fill(self, starts: &mut [u8], sums: &mut [u8]) -> (S, Result<(), Fault>)
         ensures set { result.0 ≡ self.set }
         ensures answer { result.1 ≡ filling forms.Pioneer (parts_of (S.Walking.meant self.set)) (starts.old ∷ sums.old ∷ []) }

@@ -3,7 +3,7 @@
 
 ghost use Rattle.filling.specs.Layouts.{Keeps};
 ghost use Rattle.pioneer.specs.Filling.{pioneer_layout};
-ghost use Rattle.pioneer.specs.Refilling.{FillsTell, RefillsReturn};
+ghost use Rattle.pioneer.specs.Refilling.{PartsTell, RefillsReturn};
 
 mod asks;
 mod checks;
@@ -28,7 +28,7 @@ pub use told::PioneerTold;
 /// What is filled is opened, stands for the set, and tells its runs. There is nothing to run: the contract is the theorem.
 pub fn fills_keep()
     ensures keeps { Keeps pioneer_layout }
-    ensures tells { FillsTell }
+    ensures tells { PartsTell }
 {}
 
 /// What is opened and filled anew is what was opened. There is nothing to run: the contract is the theorem.

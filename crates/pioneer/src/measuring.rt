@@ -1,4 +1,4 @@
-// What a set takes in the pioneer form.
+// What a set takes in the pioneer form, measured.
 ghost use Rattle.std.specs.Prelude.{◌≡◌};
 ghost use Rattle.pioneer.specs.Filling.{count_of, told_of};
 
@@ -35,7 +35,7 @@ impl PioneerTold {
     }
 }
 
-/// Measures a set, which then stands in a slip until it is filled.
+/// Measures a set: the slip holds it, and tells what it takes.
 pub fn measure<S: Walking>(set: S) -> PioneerSlip<S>
     ensures set { result.set ≡ set }
     ensures told { result.told ≡ told_of (S.Walking.meant set) }

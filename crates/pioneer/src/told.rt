@@ -1,6 +1,6 @@
-// What a slip tells of a pioneer index before it is written.
+// What a set takes in the pioneer form.
 
-/// The last bay and the number of members, as opening takes them, and how many bytes each part takes.
+/// The last bay, and the number of members, and how many bytes each part has.
 #[derive(Clone, Copy, PartialEq, Eq, Debug)]
 pub struct PioneerTold {
     pub last: u32,

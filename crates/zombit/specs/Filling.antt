@@ -1,4 +1,4 @@
--- The index of a set: in blocks of β bays, its rows U, O and M. Places past the last bay are non-members.
+-- What a set takes in the zombit form, and its parts. It lies in blocks of β bays, of which places past the last bay are non-members.
 use Rattle.std.specs.Prelude.{ℕ, suc, ◌+◌, ◌-◌, ◌*◌, ◌/◌, ◌%◌, Bool, false, not, ◌&&◌, List, [], ◌∷◌, length, Some, None, Option, slice_index, slice_index_or}
 use Rattle.faults.specs.Checks.{located}
 use Rattle.faults.specs.declared.fault.Form as forms

@@ -9,8 +9,8 @@ use Rattle.zombit.specs.Opening.{opening}
 use Rattle.zombit.specs.Told.{Told}
 
 -- each bit of the rows of a set is what it must be for the set
-abbrev pub RowsTell : Type 0
-RowsTell =
+abbrev pub PartsTell : Type 0
+PartsTell =
     (β : ℕ) (s : List Bool) → BlockSize β
     → Told (length s) β s (bit_at (uniform_of β s)) (bit_at (marked_of β s)) (bit_at (mixed_of β s))
 

@@ -1,4 +1,4 @@
-// Filling the index of a measured set.
+// Filling a set in the zombit form.
 ghost use Rattle.std.specs.Prelude.{◌≡◌, [], ◌∷◌, Ok};
 ghost use Rattle.faults.specs.declared.fault.Form.TheVariants as forms;
 ghost use Rattle.filling.specs.Rooms.{room_check, filling, FillingIs, wrote};
@@ -26,15 +26,15 @@ fn check_rooms(told: ZombitTold, uniform: usize, marked: usize, mixed: usize) ->
 }
 
 impl<S: Walking> ZombitSlip<S> {
-    /// What the slip tells.
+    /// What the set takes: the numbers for opening, and the length of each part.
     pub fn told(&self) -> ZombitTold
         ensures { result ≡ self.now.told }
     {
         self.told
     }
 
-    /// Writes U, O and M to the fronts of three memories, and gives the set back. All three are looked at first: where one has no
-    /// room for its part, nothing is written.
+    /// Writes each part to the front of its memory, and gives the set back. All memories are looked at first: where one has no room
+    /// for its part, nothing is written.
     pub fn fill(
         self,
         uniform: &mut [u8],

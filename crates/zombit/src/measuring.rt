@@ -1,4 +1,4 @@
-// Measuring what the index of a set takes.
+// What a set takes in the zombit form, measured.
 ghost use Rattle.std.specs.Prelude.{◌≡◌, ◌≤◌, length};
 ghost use Rattle.bits.specs.Bits.{bytes_for};
 ghost use Rattle.zombit.specs.Blocks.{blocks_of, mixed_before};
@@ -35,7 +35,7 @@ fn bytes_for(n: u32) -> usize
 }
 
 impl ZombitTold {
-    /// What the index of the set takes in blocks of `size` bays.
+    /// What the set takes, in blocks of `size` bays.
     pub fn of<S: Walking>(set: &S, size: u32) -> Result<ZombitTold, Fault>
         ensures answer { result ≡ telling size (S.Walking.meant set.now) }
         ensures law { TellingIs size (S.Walking.meant set.now) result }
@@ -54,7 +54,7 @@ impl ZombitTold {
     }
 }
 
-/// Measures what the index of the set takes in blocks of `size` bays; a refusal gives the set back.
+/// Measures a set: the slip holds it, and tells what it takes. A block size that is refused gives the set back.
 pub fn measure<S: Walking>(set: S, size: u32) -> Result<ZombitSlip<S>, (S, Fault)>
     ensures answer { in_parts result ≡ measuring size set (S.Walking.meant set) }
     ensures law { MeasuringIs size set result }

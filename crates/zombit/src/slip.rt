@@ -1,4 +1,4 @@
-// A measured set, which is to be filled.
+// A set that was measured for the zombit form.
 ghost use Rattle.std.specs.Prelude.{◌≡◌};
 ghost use Rattle.zombit.specs.Filling.{told_of};
 ghost use Rattle.zombit.specs.Lawful.{BlockSize};
@@ -6,7 +6,7 @@ ghost use Rattle.zombit.specs.Lawful.{BlockSize};
 use super::told::ZombitTold;
 use sets::Walking;
 
-/// A set, and what its index takes in the zombit form. It cannot be let go or copied: only `fill` spends it, and gives the set back.
+/// A set, and what it takes in the zombit form. A slip can be neither copied nor let go: `fill` alone spends it, and gives the set back.
 pub struct ZombitSlip<S: Walking> {
     pub(crate) set: S,
     pub(crate) told: ZombitTold,

@@ -1,6 +1,6 @@
-// What a slip tells of the index that a set takes in the zombit form.
+// What a set takes in the zombit form.
 
-/// The numbers that opening takes, the last bay and the block size, and the lengths of U, O and M in bytes.
+/// The last bay, and the block size, and how many bytes each part has.
 #[derive(Clone, Copy, PartialEq, Eq, Debug)]
 pub struct ZombitTold {
     pub last: u32,

@@ -2,7 +2,7 @@
 use Rattle.std.proofs.Common.{sym}
 use Rattle.zombit.proofs.Measured.{size_taken}
 use Rattle.zombit.proofs.Returned.{rows_told, keeps}
-use Rattle.zombit.proofs.refill.fills_keep.Goals as goal
+use Rattle.zombit.proofs.fills_keep.Goals as goal
 
 pub returns-clause-keeps : goal.returns-clause-keeps
 returns-clause-keeps c = λ β taken s sized. keeps β s (size_taken β (sym taken)) sized
