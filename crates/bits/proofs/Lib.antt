@@ -6,3 +6,4 @@ pub mod Checked
 pub mod Values
 pub mod Packing
 pub mod Fronts
+pub mod Rows

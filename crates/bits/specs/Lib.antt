@@ -2,4 +2,5 @@
 pub mod Bits
 pub mod Checks
 pub mod Words
+pub mod Rows
 pub mod Packing

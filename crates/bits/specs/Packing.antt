@@ -1,9 +1,10 @@
 -- The bytes of a bitvector, made from the number of its bits and a test of them.
-use Rattle.std.specs.Prelude.{◌≡◌, ℕ, zero, suc, ◌+◌, ◌*◌, ◌<◌, ◌≤◌, Bool, true, false, ◌&&◌, List, map, nat_le}
+use Rattle.std.specs.Prelude.{ℕ, zero, suc, ◌+◌, ◌*◌, ◌<◌, Bool, true, false, ◌&&◌, List, map, nat_le}
 use Rattle.std.specs.List.{range_with_len}
 use Rattle.sets.specs.Lists.{Each}
-use Rattle.bits.specs.Bits.{bit_at, bytes_for}
+use Rattle.bits.specs.Bits.{bytes_for}
 use Rattle.bits.specs.Checks.{Whole, Clear}
+use Rattle.bits.specs.Rows.{TellsRow}
 
 abbrev pub digit_of : Bool → ℕ
 digit_of true = 1
@@ -24,4 +25,4 @@ Bytes = Each (λ b. b < 256)
 
 -- the law of these bytes: there are as many as n bits take, each bit after the last is 0, and bit i is 1 exactly if i passes
 abbrev pub Packs : ℕ → (ℕ → Bool) → List ℕ → Type 0
-Packs n f bytes = Whole n bytes × Clear n bytes × Bytes bytes × ((i : ℕ) → 1 ≤ i → i ≤ n → bit_at bytes i ≡ f i)
+Packs n f bytes = Whole n bytes × Clear n bytes × Bytes bytes × TellsRow n f bytes

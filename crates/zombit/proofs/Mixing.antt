@@ -7,7 +7,8 @@ use Rattle.sets.proofs.Tests.{KthIs, kth_law, kth_by, count_here, count_agree}
 use Rattle.zombit.specs.Blocks.{blocks_of, mixed_before, bits_before}
 use Rattle.zombit.specs.Filling.{uniform_bit, mixed_bit, place_of}
 use Rattle.zombit.specs.Lawful.{Place}
-use Rattle.zombit.specs.Writing.{TellsBlock, TellsRow}
+use Rattle.zombit.specs.Writing.{TellsBlock}
+use Rattle.bits.specs.Rows.{TellsRow}
 use Rattle.bits.specs.Bits.{bit_at}
 use Rattle.zombit.proofs.Places.{place, block_at, offset_at}
 

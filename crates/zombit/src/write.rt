@@ -3,9 +3,10 @@ ghost use Rattle.std.specs.Prelude.{◌≡◌, ℕ, ◌+◌, ◌*◌, ◌<◌, �
 ghost use Rattle.sets.specs.Lists.{over};
 ghost use Rattle.bits.specs.Bits.{bytes_for};
 ghost use Rattle.bits.specs.Packing.{pack};
+ghost use Rattle.bits.specs.Rows.{first_bits, TellsRow};
 ghost use Rattle.zombit.specs.Blocks.{blocks_of};
 ghost use Rattle.zombit.specs.Filling.{uniform_bit, uniform_of, marked_of, mixed_of};
-ghost use Rattle.zombit.specs.Writing.{first_bits, TellsBlock, TellsRow};
+ghost use Rattle.zombit.specs.Writing.{TellsBlock};
 
 use super::blocks::Blocks;
 use sets::Walking;

@@ -1,8 +1,8 @@
 -- What is left to show of `write_block`.
 use Rattle.std.proofs.Common.{◌+◌, ◌-◌, length, sym, ap, ◌∙◌, arith}
-use Rattle.zombit.specs.Writing.{first_bits}
 use Rattle.sets.specs.Sets.{is_member}
-use Rattle.zombit.proofs.Written.{place_put, place_kept}
+use Rattle.bits.specs.Rows.{first_bits}
+use Rattle.bits.proofs.Rows.{row_put, row_kept}
 use Rattle.zombit.proofs.write.write_block.Goals as goal
 use Rattle.zombit.proofs.write.write_block.Goals.{then-holds, else-holds}
 
@@ -18,13 +18,13 @@ loop-at-preserved g c =
       | then-holds w ↦ (
         ap length w.mixed-is ∙ w.put.ensures.long ∙ c.loop-at.invariant.0,
         λ n row old few room tells before.
-            place_put n start at row old (omega arith) _ (tells at (omega arith, omega arith) ∙ sym bay ∙ w.if-holds.true)
+            row_put n (start + (at - 1)) (start + at) (start + (at + 1 - 1)) row old _ (omega arith) (omega arith) (tells at (omega arith, omega arith) ∙ sym bay ∙ w.if-holds.true)
             (w.mixed-is ∙ w.put.ensures.bits n (first_bits (start + (at - 1)) row) old (omega arith) (c.loop-at.invariant.1 n row old few room tells before) room),
       )
       | else-holds w ↦ (
         ap length w.mixed-is ∙ c.loop-at.invariant.0,
         λ n row old few room tells before.
-            place_kept n start at row old (omega arith) _ (tells at (omega arith, omega arith) ∙ sym bay ∙ w.if-holds.false)
+            row_kept n (start + (at - 1)) (start + at) (start + (at + 1 - 1)) row old _ (omega arith) (omega arith) (tells at (omega arith, omega arith) ∙ sym bay ∙ w.if-holds.false)
             (w.mixed-is ∙ c.loop-at.invariant.1 n row old few room tells before),
       )
     ]

@@ -3,7 +3,8 @@ use Rattle.std.proofs.Common.{◌≡◌, ℕ, ◌+◌, ◌-◌, ◌≤◌, Bool,
 use Rattle.sets.specs.Lists.{over}
 use Rattle.bits.specs.Bits.{bytes_for}
 use Rattle.bits.specs.Packing.{pack}
-use Rattle.zombit.specs.Writing.{first_bits, TellsBlock}
+use Rattle.bits.specs.Rows.{first_bits}
+use Rattle.zombit.specs.Writing.{TellsBlock}
 use Rattle.zombit.proofs.write.write_block.Given as goal
 
 abbrev pub invariant-loop-at : goal.invariant-loop-at

@@ -7,11 +7,11 @@ use Rattle.sets.specs.Lists.{over}
 use Rattle.sets.proofs.Tests.{count_none}
 use Rattle.zombit.specs.Blocks.{blocks_of, bits_before}
 use Rattle.zombit.specs.Filling.{uniform_bit, mixed_bit, mixed_length, mixed_of}
-use Rattle.zombit.specs.Writing.{first_bits, TellsRow}
+use Rattle.bits.specs.Rows.{first_bits, TellsRow}
 use Rattle.zombit.specs.declared.blocks.Blocks.{Blocks}
 use Rattle.zombit.proofs.Mixing.{mixed_tells, bits_agree, read_bit}
 use Rattle.zombit.proofs.Room.{mixed_few, mixed_room, bits_on, bits_here}
-use Rattle.zombit.proofs.Written.{row_none, row_all}
+use Rattle.bits.proofs.Rows.{row_none, row_all}
 use Rattle.zombit.proofs.write.write_mixed.Goals as goal
 use Rattle.zombit.proofs.write.write_mixed.Goals.{then-not-get, else-not-get}
 
@@ -115,4 +115,4 @@ returns g c =
     let row = mixed_bit b.size s in
     let all : c.loop-k.k ≡ blocks_of (length s) b.size = omega (arith, c.loop-k.auto.k-end, c.loop-k-test.false, c.count-count.ensures, blocks b s c.requires.last) in
     let start : c.loop-k.start ≡ n = c.loop-k.invariant.0 ∙ ap (bits_before b.size (uniform_bit b.size s)) all in
-    c.loop-k.invariant.1 ∙ ap (λ (x : ℕ). over (pack n (first_bits x row)) c.args.mixed.now) start ∙ ap (λ p. over p c.args.mixed.now) (row_all n row)
+    c.loop-k.invariant.1 ∙ ap (λ (x : ℕ). over (pack n (first_bits x row)) c.args.mixed.now) start ∙ ap (λ p. over p c.args.mixed.now) (row_all n n row (omega arith))

@@ -4,7 +4,7 @@ use Rattle.sets.specs.Lists.{over}
 use Rattle.bits.specs.Packing.{pack}
 use Rattle.zombit.specs.Blocks.{bits_before}
 use Rattle.zombit.specs.Filling.{uniform_bit, mixed_length, mixed_bit}
-use Rattle.zombit.specs.Writing.{first_bits}
+use Rattle.bits.specs.Rows.{first_bits}
 use Rattle.zombit.proofs.write.write_mixed.Given as goal
 
 abbrev pub invariant-loop-k : goal.invariant-loop-k

@@ -6,7 +6,7 @@ use Rattle.bits.proofs.Packing.{pack_length}
 use Rattle.sets.specs.Lists.{over}
 use Rattle.zombit.specs.Blocks.{blocks_of}
 use Rattle.zombit.specs.Filling.{uniform_bit, marked_bit}
-use Rattle.zombit.specs.Writing.{TellsRow}
+use Rattle.bits.specs.Rows.{TellsRow}
 use Rattle.zombit.proofs.Written.{over_tells, over_long}
 use Rattle.zombit.proofs.write.write_rows.Goals as goal
 
