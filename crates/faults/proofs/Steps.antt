@@ -24,3 +24,13 @@ then form n part P (Err e) rest verdict law on = inl (law.0, refl, refl, law.1)
 pub passed : (n : ℕ) (P : Type 0) (check : Check) → CheckIs n P check → P → check ≡ Ok tt
 passed n P (Ok _) law h = refl
 passed n P (Err e) law h = absurd (law.1 h)
+
+-- a check that has refused nothing asked for what holds
+pub held : (form : Form) (n part : ℕ) (P : Type 0) (check : Check) → CheckIs n P check → located form part check ≡ Ok tt → P
+held form n part P (Ok _) law e = law
+held form n part P (Err f) law e = absurd cc
+
+-- and so did the first of two, and the rest has refused nothing
+pub held_first : (form : Form) (n part : ℕ) (P : Type 0) (check : Check) (rest : Verdict) → CheckIs n P check → first_of (located form part check) rest ≡ Ok tt → P × (rest ≡ Ok tt)
+held_first form n part P (Ok _) rest law e = (law, e)
+held_first form n part P (Err f) rest law e = absurd cc

@@ -1,10 +1,10 @@
 -- What opening demands is met exactly where it accepts.
 use Rattle.std.proofs.Common.{◌≡◌, ℕ, ◌≤◌, leb, List, Ok, Err, refl, arith}
 use Rattle.std.proofs.lemmas.Bool.{cond_both, leb-true, leb-false}
-use Rattle.faults.specs.Checks.{Check, CheckIs, Verdict, last_check, located, first_of}
+use Rattle.faults.specs.Checks.{CheckIs, last_check, located, first_of}
 use Rattle.faults.specs.declared.fault.Flaw.TheVariants.{Numbers}
 use Rattle.faults.specs.declared.fault.Form.TheVariants.{Pioneer}
-use Rattle.faults.proofs.Steps.{range_law, passed}
+use Rattle.faults.proofs.Steps.{range_law, passed, held, held_first}
 use Rattle.sets.specs.Sets.{LastBay}
 use Rattle.bits.specs.Bits.{bit_at}
 use Rattle.bits.specs.Checks.{Whole, Clear, length_check, spare_check}
@@ -15,15 +15,6 @@ use Rattle.pioneer.proofs.Checking.{runs_law}
 
 count_law : (n u : ℕ) → CheckIs 1 (n ≤ u) (count_check n u)
 count_law n u = cond_both (leb n u) (Ok tt) (Err Numbers) (CheckIs 1 (n ≤ u)) (λ e. leb-true n u e) (λ e. (refl, λ h. omega (arith, leb-false n u e)))
-
--- what was asked first held, and then the rest was accepted
-asked : (n part : ℕ) (P : Type 0) (check : Check) (next : Verdict) → CheckIs n P check → first_of (located Pioneer part check) next ≡ Ok tt → P × (next ≡ Ok tt)
-asked n part P (Ok _) next law e = (law, e)
-asked n part P (Err f) next law e = absurd cc
-
-asked_last : (n part : ℕ) (P : Type 0) (check : Check) → CheckIs n P check → located Pioneer part check ≡ Ok tt → P
-asked_last n part P (Ok _) law e = law
-asked_last n part P (Err f) law e = absurd cc
 
 module _ (u n : ℕ) (starts sums : List ℕ) where
   -- the numbers and the parts make an index
@@ -55,12 +46,12 @@ module _ (u n : ℕ) (starts sums : List ℕ) where
 
   pub taken : opening u n starts sums ≡ Ok tt → Taken
   taken e =
-      let last = asked 1 0 (LastBay u) (last_check u) _ (range_law Numbers 1 65535 u) e in
-      let count = asked 1 0 (n ≤ u) (count_check n u) _ (count_law n u) last.1 in
-      let long_starts = asked 2 1 (Whole u starts) (length_check u starts) _ (length_law u starts) count.1 in
-      let long_sums = asked 2 2 (Whole n sums) (length_check n sums) _ (length_law n sums) long_starts.1 in
-      let spare_starts = asked 3 1 (Clear u starts) (spare_check u starts) _ (spare_law u starts) long_sums.1 in
-      let spare_sums = asked 3 2 (Clear n sums) (spare_check n sums) _ (spare_law n sums) spare_starts.1 in
+      let last = held_first Pioneer 1 0 (LastBay u) (last_check u) _ (range_law Numbers 1 65535 u) e in
+      let count = held_first Pioneer 1 0 (n ≤ u) (count_check n u) _ (count_law n u) last.1 in
+      let long_starts = held_first Pioneer 2 1 (Whole u starts) (length_check u starts) _ (length_law u starts) count.1 in
+      let long_sums = held_first Pioneer 2 2 (Whole n sums) (length_check n sums) _ (length_law n sums) long_starts.1 in
+      let spare_starts = held_first Pioneer 3 1 (Clear u starts) (spare_check u starts) _ (spare_law u starts) long_sums.1 in
+      let spare_sums = held_first Pioneer 3 2 (Clear n sums) (spare_check n sums) _ (spare_law n sums) spare_starts.1 in
       record {
         sized = last.0;
         most = count.0;
@@ -68,5 +59,5 @@ module _ (u n : ℕ) (starts sums : List ℕ) where
         whole_sums = long_sums.0;
         clear_starts = spare_starts.0;
         clear_sums = spare_sums.0;
-        lawful = asked_last 6 2 (Lawful u n (bit_at starts) (bit_at sums)) (runs_check u n (bit_at starts) (bit_at sums)) (runs_law u n (bit_at starts) (bit_at sums)) spare_sums.1;
+        lawful = held Pioneer 6 2 (Lawful u n (bit_at starts) (bit_at sums)) (runs_check u n (bit_at starts) (bit_at sums)) (runs_law u n (bit_at starts) (bit_at sums)) spare_sums.1;
       }

@@ -1,24 +1,20 @@
 -- What is told of a set, and when its block size was taken.
-use Rattle.std.proofs.Common.{◌≡◌, ℕ, ◌*◌, List, Bool, length, Ok, Err, sym, ap, ◌∙◌}
+use Rattle.std.proofs.Common.{◌≡◌, ℕ, ◌*◌, List, Bool, length, Ok, sym, ap, ◌∙◌}
 use Rattle.bits.specs.Bits.{bytes_for}
 use Rattle.bits.proofs.Packing.{pack_length}
-use Rattle.faults.specs.Checks.{Check, CheckIs, located}
+use Rattle.faults.specs.Checks.{located}
 use Rattle.faults.specs.declared.fault.Flaw.TheVariants.{BlockSize as WrongSize}
 use Rattle.faults.specs.declared.fault.Form.TheVariants.{Zombit}
-use Rattle.faults.proofs.Steps.{range_law}
+use Rattle.faults.proofs.Steps.{range_law, held}
 use Rattle.zombit.specs.Blocks.{blocks_of, mixed_before}
 use Rattle.zombit.specs.Filling.{uniform_bit, marked_bit, mixed_bit, told_of, mixed_length}
 use Rattle.zombit.specs.Lawful.{BlockSize}
 use Rattle.zombit.specs.Opening.{size_check}
 use Rattle.zombit.specs.declared.told.ZombitTold.{ZombitTold}
 
-accepted_is : (P : Type 0) (check : Check) → CheckIs 4 P check → Ok tt ≡ located Zombit 0 check → P
-accepted_is P (Ok _) law e = law
-accepted_is P (Err flaw) law e = absurd (cc)
-
 -- a block size that was taken is one
 pub size_taken : (β : ℕ) → Ok tt ≡ located Zombit 0 (size_check β) → BlockSize β
-size_taken β e = accepted_is (BlockSize β) (size_check β) (range_law WrongSize 2 4096 β) e
+size_taken β e = held Zombit 4 0 (BlockSize β) (size_check β) (range_law WrongSize 2 4096 β) (sym e)
 
 -- the numbers that are counted are those that are told
 pub told_is : (β : ℕ) (s : List Bool) (u n row k m : ℕ) → u ≡ length s → n ≡ blocks_of u β → row ≡ bytes_for n → k ≡ mixed_before (uniform_bit β s) (blocks_of u β) → m ≡ bytes_for (k * β)
