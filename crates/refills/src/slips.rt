@@ -1,0 +1,66 @@
+// Measuring a set and filling it at once, in each form: what the slip told, and the answer. The set comes back.
+use faults::Fault;
+use list::ListTold;
+use pioneer::PioneerTold;
+use plain::{Plain, PlainTold};
+use std::process::Abort;
+use zombit::ZombitTold;
+
+pub(crate) fn fill_bits(
+    rt: &impl Abort,
+    set: Plain,
+    bits: &mut [u8],
+) -> (PlainTold, Result<(), Fault>) {
+    let slip = plain::measure(set);
+    let told = slip.told();
+    let (back, filled) = slip.fill(bits);
+    assert_eq!(rt; back, set);
+    (told, filled)
+}
+
+pub(crate) fn fill_numbers(
+    rt: &impl Abort,
+    set: Plain,
+    numbers: &mut [u16],
+) -> (ListTold, Result<(), Fault>) {
+    let slip = list::measure(set);
+    let told = slip.told();
+    let (back, filled) = slip.fill(numbers);
+    assert_eq!(rt; back, set);
+    (told, filled)
+}
+
+// A block size may be refused, and then the set comes back at once.
+pub(crate) fn fill_blocks(
+    rt: &impl Abort,
+    set: Plain,
+    size: u32,
+    parts: [&mut [u8]; 3],
+) -> Result<(ZombitTold, Result<(), Fault>), Fault> {
+    let [uniform, marked, mixed] = parts;
+    match zombit::measure(set, size) {
+        Ok(slip) => {
+            let told = slip.told();
+            let (back, filled) = slip.fill(uniform, marked, mixed);
+            assert_eq!(rt; back, set);
+            Ok((told, filled))
+        }
+        Err((back, fault)) => {
+            assert_eq!(rt; back, set);
+            Err(fault)
+        }
+    }
+}
+
+pub(crate) fn fill_runs(
+    rt: &impl Abort,
+    set: Plain,
+    parts: [&mut [u8]; 2],
+) -> (PioneerTold, Result<(), Fault>) {
+    let [starts, sums] = parts;
+    let slip = pioneer::measure(set);
+    let told = slip.told();
+    let (back, filled) = slip.fill(starts, sums);
+    assert_eq!(rt; back, set);
+    (told, filled)
+}
