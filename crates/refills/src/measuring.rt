@@ -26,7 +26,7 @@ fn block_sizes(rt: HostRuntime) {
     for (last, bits) in [WORKED, ODD, ONE, NONE] {
         let set = opened(&rt, last, bits);
         for (size, due) in cases {
-            let measured = fill_blocks(&rt, set, size, [&mut [], &mut [], &mut []]);
+            let measured = fill_blocks(&rt, set, size, &mut [], &mut [], &mut []);
             assert_eq!(rt; measured.map(|(told, _)| told.size), due, "{size}");
             let told = ZombitTold::of(&set, size);
             assert_eq!(rt; told.map(|told| told.size), due, "{size}");
@@ -76,7 +76,7 @@ fn in_blocks(rt: HostRuntime) {
             mixed,
         };
         assert_eq!(rt; ZombitTold::of(&set, size), Ok(due));
-        let measured = fill_blocks(&rt, set, size, [&mut [], &mut [], &mut []]);
+        let measured = fill_blocks(&rt, set, size, &mut [], &mut [], &mut []);
         assert_eq!(rt; measured.map(|(told, _)| told), Ok(due));
     }
 }
@@ -98,6 +98,6 @@ fn in_runs(rt: HostRuntime) {
             sums,
         };
         assert_eq!(rt; PioneerTold::of(&set), due);
-        assert_eq!(rt; fill_runs(&rt, set, [&mut [], &mut []]).0, due);
+        assert_eq!(rt; fill_runs(&rt, set, &mut [], &mut []).0, due);
     }
 }

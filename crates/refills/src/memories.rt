@@ -78,15 +78,22 @@ fn in_numbers(rt: HostRuntime) {
 // Blocks of two, and memories for U, O and M.
 fn fills_blocks(rt: &impl Abort, garage: Garage, parts: [&[u8]; 3], lengths: &[([usize; 3], u8)]) {
     let (last, bits) = garage;
-    for ([uniform, marked, mixed], part) in lengths {
-        let mut memories = [[HELD; 4]; 3];
-        let [u, o, m] = &mut memories;
-        assert!(rt; *uniform <= 4 && *marked <= 4 && *mixed <= 4);
-        let fronts = [&mut u[..*uniform], &mut o[..*marked], &mut m[..*mixed]];
-        let filled = fill_blocks(rt, opened(rt, last, bits), 2, fronts);
+    for ([u, o, m], part) in lengths {
+        let mut uniform = [HELD; 4];
+        let mut marked = [HELD; 4];
+        let mut mixed = [HELD; 4];
+        assert!(rt; *u <= uniform.len() && *o <= marked.len() && *m <= mixed.len());
+        let filled = fill_blocks(
+            rt,
+            opened(rt, last, bits),
+            2,
+            &mut uniform[..*u],
+            &mut marked[..*o],
+            &mut mixed[..*m],
+        );
         let answer = filled.map(|(_, answer)| answer);
-        assert_eq!(rt; answer, Ok(due(Form::Zombit, *part)), "{lengths:?}");
-        for (memory, written) in memories.iter().zip(parts) {
+        assert_eq!(rt; answer, Ok(due(Form::Zombit, *part)), "{u} {o} {m}");
+        for (memory, written) in [uniform, marked, mixed].iter().zip(parts) {
             shows(rt, memory, written, *part == 0);
         }
     }
@@ -128,14 +135,14 @@ fn in_blocks(rt: HostRuntime) {
 
 fn fills_runs(rt: &impl Abort, garage: Garage, parts: [&[u8]; 2], lengths: &[([usize; 2], u8)]) {
     let (last, bits) = garage;
-    for ([starts, sums], part) in lengths {
-        let mut memories = [[HELD; 4]; 2];
-        let [p, l] = &mut memories;
-        assert!(rt; *starts <= 4 && *sums <= 4);
-        let fronts = [&mut p[..*starts], &mut l[..*sums]];
-        let (_, filled) = fill_runs(rt, opened(rt, last, bits), fronts);
-        assert_eq!(rt; filled, due(Form::Pioneer, *part), "{lengths:?}");
-        for (memory, written) in memories.iter().zip(parts) {
+    for ([p, l], part) in lengths {
+        let mut starts = [HELD; 4];
+        let mut sums = [HELD; 4];
+        assert!(rt; *p <= starts.len() && *l <= sums.len());
+        let set = opened(rt, last, bits);
+        let (_, filled) = fill_runs(rt, set, &mut starts[..*p], &mut sums[..*l]);
+        assert_eq!(rt; filled, due(Form::Pioneer, *part), "{p} {l}");
+        for (memory, written) in [starts, sums].iter().zip(parts) {
             shows(rt, memory, written, *part == 0);
         }
     }

@@ -35,9 +35,10 @@ pub(crate) fn fill_blocks(
     rt: &impl Abort,
     set: Plain,
     size: u32,
-    parts: [&mut [u8]; 3],
+    uniform: &mut [u8],
+    marked: &mut [u8],
+    mixed: &mut [u8],
 ) -> Result<(ZombitTold, Result<(), Fault>), Fault> {
-    let [uniform, marked, mixed] = parts;
     match zombit::measure(set, size) {
         Ok(slip) => {
             let told = slip.told();
@@ -55,9 +56,9 @@ pub(crate) fn fill_blocks(
 pub(crate) fn fill_runs(
     rt: &impl Abort,
     set: Plain,
-    parts: [&mut [u8]; 2],
+    starts: &mut [u8],
+    sums: &mut [u8],
 ) -> (PioneerTold, Result<(), Fault>) {
-    let [starts, sums] = parts;
     let slip = pioneer::measure(set);
     let told = slip.told();
     let (back, filled) = slip.fill(starts, sums);
