@@ -1,6 +1,10 @@
-// Measuring and filling sets in each form, at the edges of their memories, by the compiled code.
+// Measuring and filling sets in each form, and filling them again from what was opened, by the compiled code.
 #![tactic(auto)]
 
+#[cfg(test)]
+mod alike;
+#[cfg(test)]
+mod chained;
 #[cfg(test)]
 mod garages;
 #[cfg(test)]
@@ -9,3 +13,5 @@ mod measuring;
 mod memories;
 #[cfg(test)]
 mod slips;
+#[cfg(test)]
+mod steps;

@@ -1,4 +1,5 @@
 // Measuring a set and filling it at once, in each form: what the slip told, and the answer. The set comes back.
+use super::alike::alike;
 use faults::Fault;
 use list::ListTold;
 use pioneer::PioneerTold;
@@ -14,7 +15,7 @@ pub(crate) fn fill_bits(
     let slip = plain::measure(set);
     let told = slip.told();
     let (back, filled) = slip.fill(bits);
-    assert_eq!(rt; back, set);
+    alike(rt, &back, &set, 1);
     (told, filled)
 }
 
@@ -26,7 +27,7 @@ pub(crate) fn fill_numbers(
     let slip = list::measure(set);
     let told = slip.told();
     let (back, filled) = slip.fill(numbers);
-    assert_eq!(rt; back, set);
+    alike(rt, &back, &set, 1);
     (told, filled)
 }
 
@@ -43,11 +44,11 @@ pub(crate) fn fill_blocks(
         Ok(slip) => {
             let told = slip.told();
             let (back, filled) = slip.fill(uniform, marked, mixed);
-            assert_eq!(rt; back, set);
+            alike(rt, &back, &set, 1);
             Ok((told, filled))
         }
         Err((back, fault)) => {
-            assert_eq!(rt; back, set);
+            alike(rt, &back, &set, 1);
             Err(fault)
         }
     }
@@ -62,6 +63,6 @@ pub(crate) fn fill_runs(
     let slip = pioneer::measure(set);
     let told = slip.told();
     let (back, filled) = slip.fill(starts, sums);
-    assert_eq!(rt; back, set);
+    alike(rt, &back, &set, 1);
     (told, filled)
 }
