@@ -8,6 +8,8 @@ pub(crate) type Garage = (u32, &'static [u8]);
 
 // Bays 1, 2, 3, 8, 9, 10 and 11 of 16.
 pub(crate) const WORKED: Garage = (16, &[135, 7]);
+// Bays 2, 5, 9, 10 and 14 of the same 16.
+pub(crate) const CHARGING: Garage = (16, &[18, 35]);
 // The odd bays of 18: in each form a part takes more than a byte.
 pub(crate) const ODD: Garage = (18, &[85, 85, 1]);
 // One bay, which is a member.

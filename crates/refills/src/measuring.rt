@@ -1,11 +1,27 @@
-// What measuring tells of a set, and which block sizes it refuses.
+// Measuring in blocks: which block sizes are refused, and what is told of the others.
+use super::alike::alike;
 use super::garages::{Garage, NONE, ODD, ONE, WORKED, opened};
-use super::slips::{fill_bits, fill_blocks, fill_numbers, fill_runs};
 use faults::{Fault, Flaw, Form};
-use list::ListTold;
-use pioneer::PioneerTold;
-use plain::PlainTold;
-use zombit::ZombitTold;
+use plain::Plain;
+use std::process::Abort;
+use zombit::{ZombitTold, measure};
+
+// Measures a set, which comes back from a refusal, and from a slip that was spent on no memory.
+fn measured(rt: &impl Abort, set: Plain, size: u32) -> Result<ZombitTold, Fault> {
+    match measure(set, size) {
+        Ok(slip) => {
+            let told = slip.told();
+            let (back, filled) = slip.fill(&mut [], &mut [], &mut []);
+            assert!(rt; filled.is_err());
+            alike(rt, &back, &set, 1);
+            Ok(told)
+        }
+        Err((back, fault)) => {
+            alike(rt, &back, &set, 1);
+            Err(fault)
+        }
+    }
+}
 
 #[test]
 fn block_sizes(rt: HostRuntime) {
@@ -15,46 +31,18 @@ fn block_sizes(rt: HostRuntime) {
         part: 0,
     };
     assert_eq!(rt; fault.flaw.number(), 4);
-    let cases = [
-        (0, Err(fault)),
-        (1, Err(fault)),
-        (2, Ok(2)),
-        (4096, Ok(4096)),
-        (4097, Err(fault)),
-        (u32::MAX, Err(fault)),
-    ];
     for (last, bits) in [WORKED, ODD, ONE, NONE] {
         let set = opened(&rt, last, bits);
-        for (size, due) in cases {
-            let measured = fill_blocks(&rt, set, size, &mut [], &mut [], &mut []);
-            assert_eq!(rt; measured.map(|(told, _)| told.size), due, "{size}");
-            let told = ZombitTold::of(&set, size);
-            assert_eq!(rt; told.map(|told| told.size), due, "{size}");
+        for size in [0, 1, 4097, u32::MAX] {
+            assert_eq!(rt; measured(&rt, set, size), Err(fault), "{size}");
+            assert_eq!(rt; ZombitTold::of(&set, size), Err(fault), "{size}");
         }
     }
 }
 
+// Bytes of U, O and M.
 #[test]
-fn in_bits_and_in_numbers(rt: HostRuntime) {
-    let cases: [(Garage, usize, usize); 4] = [
-        (WORKED, 2, 7),
-        (ODD, 3, 9),
-        (ONE, 1, 1),
-        (NONE, 1, 0),
-    ];
-    for ((last, members), bits, numbers) in cases {
-        let set = opened(&rt, last, members);
-        let due = PlainTold { last, bits };
-        assert_eq!(rt; PlainTold::of(&set), due);
-        assert_eq!(rt; fill_bits(&rt, set, &mut []).0, due);
-        let due = ListTold { last, numbers };
-        assert_eq!(rt; ListTold::of(&set), due);
-        assert_eq!(rt; fill_numbers(&rt, set, &mut []).0, due);
-    }
-}
-
-#[test]
-fn in_blocks(rt: HostRuntime) {
+fn lengths(rt: HostRuntime) {
     let cases: [(Garage, u32, [usize; 3]); 9] = [
         (WORKED, 2, [1, 1, 1]),
         (ODD, 2, [2, 2, 3]),
@@ -75,29 +63,7 @@ fn in_blocks(rt: HostRuntime) {
             marked,
             mixed,
         };
+        assert_eq!(rt; measured(&rt, set, size), Ok(due));
         assert_eq!(rt; ZombitTold::of(&set, size), Ok(due));
-        let measured = fill_blocks(&rt, set, size, &mut [], &mut [], &mut []);
-        assert_eq!(rt; measured.map(|(told, _)| told), Ok(due));
-    }
-}
-
-#[test]
-fn in_runs(rt: HostRuntime) {
-    let cases: [(Garage, u32, [usize; 2]); 4] = [
-        (WORKED, 7, [2, 1]),
-        (ODD, 9, [3, 2]),
-        (ONE, 1, [1, 1]),
-        (NONE, 0, [1, 0]),
-    ];
-    for ((last, bits), count, [starts, sums]) in cases {
-        let set = opened(&rt, last, bits);
-        let due = PioneerTold {
-            last,
-            count,
-            starts,
-            sums,
-        };
-        assert_eq!(rt; PioneerTold::of(&set), due);
-        assert_eq!(rt; fill_runs(&rt, set, &mut [], &mut []).0, due);
     }
 }
