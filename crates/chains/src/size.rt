@@ -2,7 +2,7 @@
 ghost use Rattle.std.specs.Prelude.{◌≡◌};
 ghost use Rattle.forms.specs.Choices.{layout_of};
 
-use faults::{Fault, Flaw, Form, Located, check_range};
+use faults::{Fault, Form, Located};
 use forms::Choice;
 
 // Checks the block size of a form that has one, as measuring does, but with no set at hand.
@@ -10,9 +10,7 @@ pub(crate) fn check_size(choice: Choice) -> Result<(), Fault>
     ensures { result ≡ (layout_of choice).measuring }
 {
     match choice {
-        Choice::Zombit { size } => {
-            check_range(size, 2, 4096, Flaw::BlockSize).at(Form::Zombit, 0)
-        }
+        Choice::Zombit { size } => zombit::check_size(size).at(Form::Zombit, 0),
         Choice::Plain | Choice::List | Choice::Pioneer => Ok(()),
     }
 }

@@ -9,8 +9,8 @@ use super::blocks::Blocks;
 use faults::{Flaw, check_range};
 use sets::Sort;
 
-// Checks that the block size lies from 2 to 4,096.
-pub(crate) fn check_size(size: u32) -> Result<(), Flaw>
+/// Checks that the block size lies from 2 to 4,096.
+pub fn check_size(size: u32) -> Result<(), Flaw>
     ensures { result ≡ size_check size }
 {
     check_range(size, 2, 4096, Flaw::BlockSize)

@@ -25,6 +25,7 @@ mod source;
 mod told;
 mod write;
 
+pub use checks::check_size;
 pub use index::Zombit;
 pub use measuring::measure;
 pub use slip::ZombitSlip;
