@@ -1,7 +1,7 @@
 // Opening an index of any form from the fronts of two memories.
 ghost use Rattle.std.specs.Prelude.{◌≡◌, IfOk};
 ghost use Rattle.forms.specs.Meant.{meant_of, Holds};
-ghost use Rattle.forms.specs.Opening.{opening_told, decoding_told};
+ghost use Rattle.forms.specs.Opening.{opening_told, OpeningIs, decoding_told};
 ghost use Rattle.forms.specs.Verdicts.{verdict_of};
 
 use super::index::Index;
@@ -17,6 +17,7 @@ use zombit::Zombit;
 // The index of the source, put in the place of an open one.
 fn opened<X: Opens>(index: X, source: X::Source) -> Result<X, Fault>
     ensures answer { verdict_of result ≡ X.Opens.verdict source }
+    ensures law { X.Opens.due source (verdict_of result) }
     ensures holds { IfOk result (λ x. X.Opens.holding x source) }
     ensures means { IfOk result (λ x. X.Walking.meant x ≡ X.Opens.decoding source) }
 {
@@ -29,6 +30,7 @@ fn opened<X: Opens>(index: X, source: X::Source) -> Result<X, Fault>
 /// longer than what is left of its memory is what is left.
 pub fn open<'a>(told: Told, bytes: &'a [u8], numbers: &'a [u16]) -> Result<Index<'a>, Fault>
     ensures answer { verdict_of result ≡ opening_told told bytes.now numbers.now }
+    ensures law { OpeningIs told bytes.now numbers.now (verdict_of result) }
     ensures holds { IfOk result (λ index. Holds index told bytes.now numbers.now) }
     ensures means { IfOk result (λ index. meant_of index ≡ decoding_told told bytes.now numbers.now) }
 {
