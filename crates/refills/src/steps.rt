@@ -20,7 +20,7 @@ impl Filled {
         set: &S,
         choice: Choice,
     ) -> Result<Filled, Fail> {
-        let told = Told::of(choice, set)?;
+        let told = Told::of(set, choice)?;
         let mut bytes = vec![in alloc; 170; told.bytes()]?;
         let mut numbers = vec![in alloc; 170; told.numbers()]?;
         assert_eq!(rt; fill(set, choice, &mut bytes, &mut numbers), Ok(told));
