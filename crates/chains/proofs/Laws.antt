@@ -1,4 +1,4 @@
--- What judging answers is due: the first demand that does not hold is named.
+-- What judging answers is due: the first that does not hold is named.
 use Rattle.std.proofs.Common.{◌≡◌, ℕ, suc, ◌+◌, ◌-◌, ◌≤◌, List, [], ◌∷◌, length, leb, Ok, Err, refl, sym, ap, subst, inl, inr, ◌∙◌, arith}
 use Rattle.std.proofs.lemmas.Bool.{cond_both, leb-true, leb-false}
 use Rattle.faults.specs.Checks.{CheckIs, Verdict, located, first_of}
