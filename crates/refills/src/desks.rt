@@ -10,8 +10,8 @@ use std::process::Abort;
 // A call, and what either reader is due to be answered.
 pub(crate) type Asked = (Call, Answer);
 
-// Six numbers for the sheets of each reader.
-pub(crate) type Memories = [[u32; 6]; 2];
+// Six numbers for the sheets of the first reader, and eight for those of the second, of which six count.
+pub(crate) type Memories = ([u32; 6], [u32; 8]);
 
 #[derive(Drop, PartialEq, Debug)]
 pub(crate) struct Desk {
@@ -19,7 +19,7 @@ pub(crate) struct Desk {
     numbers: Vec<u16>,
     exchanges: Vec<Exchange>,
     memory: [u32; 6],
-    late_memory: [u32; 6],
+    late_memory: [u32; 8],
 }
 
 // The front, and so many 170s behind it.
@@ -41,7 +41,7 @@ impl Desk {
         alloc: Global,
         room: (usize, usize),
         asked: &[Asked],
-        [memory, late_memory]: Memories,
+        (memory, late_memory): Memories,
     ) -> Result<Desk, AllocError> {
         Ok(Desk {
             bytes: padded(alloc, &[], room.0)?,
@@ -61,7 +61,7 @@ impl Desk {
         (bytes, numbers): (&[u8], &[u16]),
         spare: usize,
         asked: &[Asked],
-        [memory, late_memory]: Memories,
+        (memory, late_memory): Memories,
     ) -> Result<Desk, AllocError> {
         Ok(Desk {
             bytes: padded(alloc, bytes, spare)?,

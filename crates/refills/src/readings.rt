@@ -40,7 +40,7 @@ const LONG: Forms = (
 );
 
 // The memories of both readers before.
-const FRESH: Memories = [[7; 6], [8; 6]];
+const FRESH: Memories = ([7; 6], [8; 8]);
 
 fn taken(bay: Option<u32>, stretches: u32) -> Asked {
     (Call::Next, Answer::Next(Taken { bay, stretches }))
@@ -125,13 +125,14 @@ fn chains_of_any_length(rt: HostRuntime) -> Result<(), Fail> {
             ),
         ),
     ];
+    let memories = ([7; 6], [7, 7, 7, 7, 7, 7, 8, 8]);
     for (forms, parts) in cases {
-        reads(&rt, forms, parts, &asked, FRESH)?;
+        reads(&rt, forms, parts, &asked, memories)?;
     }
     Ok(())
 }
 
-// Each reader's sheets take the next numbers of its own memory, or what is left.
+// Each reader's sheets take the next numbers of its own memory, or what is left. The second's begins as a copy of the first's.
 #[test]
 fn sheets(rt: HostRuntime) -> Result<(), Fail> {
     let forms: Forms = (&[PAIRS, Choice::Plain], &[Choice::Pioneer]);
@@ -143,7 +144,7 @@ fn sheets(rt: HostRuntime) -> Result<(), Fail> {
         sheet(3, 1, 3),
         sheet(9, 0, 0),
     ];
-    let memories = [[2, 9, 10, 7, 7, 7], [2, 9, 10, 8, 8, 8]];
+    let memories = ([2, 9, 10, 7, 7, 7], [2, 9, 10, 7, 7, 7, 8, 8]);
     reads(&rt, forms, parts, &by_two, memories)?;
     let to_the_end = [
         sheet(1, 1, 2),
