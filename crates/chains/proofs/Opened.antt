@@ -1,5 +1,5 @@
 -- An index that lies in two memories is opened there, and stands for its set.
-use Rattle.std.proofs.Common.{◌≡◌, ℕ, ◌+◌, ◌-◌, ◌≤◌, Bool, List, [], ◌++◌, length, take, drop, Ok, Err, Result, refl, sym, ap, subst, ◌∙◌, arith, take-append-drop, length-drop}
+use Rattle.std.proofs.Common.{◌≡◌, ℕ, ◌-◌, Bool, List, [], ◌++◌, length, take, drop, Ok, Err, Result, refl, sym, ap, subst, ◌∙◌, take-append-drop, length-drop}
 use Rattle.std.specs.List.{concat}
 use Rattle.std.specs.Result.{IsOk, IfOk}
 use Rattle.std.proofs.Math.Seq.{take-length}
@@ -11,14 +11,13 @@ use Rattle.forms.specs.Cutting.{cuts}
 use Rattle.forms.specs.Laying.{bytes_of, numbers_of}
 use Rattle.forms.specs.Meant.{meant_of}
 use Rattle.forms.specs.Opening.{fronts_told, opening_told, decoding_told}
-use Rattle.forms.specs.Telling.{told_of, bytes_told, numbers_told}
+use Rattle.forms.specs.Telling.{told_of}
 use Rattle.forms.specs.Verdicts.{verdict_of}
 use Rattle.forms.specs.declared.choice.Choice.{Choice}
 use Rattle.forms.specs.declared.choice.Choice.TheVariants as choices
 use Rattle.forms.specs.declared.index.Index.{Index}
 use Rattle.forms.proofs.Cuts.{cuts_written}
 use Rattle.forms.proofs.Keeping.{keeps}
-use Rattle.forms.proofs.Laid.{told_bytes, told_numbers}
 use Rattle.forms.proofs.Stepped.{tells_layout}
 use Rattle.chains.specs.Laid.{Has, IndexIn}
 use Rattle.chains.specs.declared.place.Last.{Last}
@@ -64,12 +63,6 @@ module _ (l : Last) (s : List Bool) (bytes numbers : List ℕ) (lies : IndexIn l
       let again =
       opened_again x s from_bytes from_numbers _ _ (from_place bytes l.bytes_at (bytes_of x s) lies.3) (from_place numbers l.numbers_at (numbers_of x s) lies.4) lies.1 sized in
       (ap (λ t. opening_told t from_bytes from_numbers) lies.2 ∙ again.0, ap (λ t. decoding_told t from_bytes from_numbers) lies.2 ∙ again.1)
-
-  pub bytes_within : l.bytes_at + bytes_told l.told ≤ length bytes
-  bytes_within = omega (arith, ap bytes_told lies.2, told_bytes lies.0 s, lies.3.0)
-
-  pub numbers_within : l.numbers_at + numbers_told l.told ≤ length numbers
-  numbers_within = omega (arith, ap numbers_told lies.2, told_numbers lies.0 s, lies.4.0)
 
 -- a memory from a place on, as the code cuts it off
 pub rest_of : (memory : List ℕ) (at : ℕ) → take (length memory - at) (drop at memory) ≡ drop at memory

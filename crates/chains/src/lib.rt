@@ -19,6 +19,5 @@ pub use judging::judge;
 pub use pair::refill_pair;
 pub use place::Last;
 pub use plan::Plan;
-pub use refilling::refill;
 pub use reopening::latest;
 pub use source::Source;

@@ -54,10 +54,9 @@ fn step<S: Walking>(
     }
 }
 
-/// Fills a set in one form after the other, from a place on: each step behind the one before it, and each time from what is opened
-/// there; and says where the last index lies. It asks that the forms have such block sizes, and that the memories have room for all
-/// steps.
-pub fn refill<S: Walking>(
+// Fills a set in one form after the other, from a place on: each step behind the one before it, and each time from what is opened
+// there; and says where the last index lies.
+pub(crate) fn refill<S: Walking>(
     set: &S,
     choices: &[Choice],
     start: Extent,
