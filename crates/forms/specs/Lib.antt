@@ -6,5 +6,6 @@ pub mod Cutting
 pub mod Laying
 pub mod Opening
 pub mod Meant
+pub mod Sources
 pub mod Stepping
 pub mod Texts

@@ -9,12 +9,14 @@ ghost use Rattle.forms.specs.declared.choice.Choice.{Choice};
 
 mod asks;
 mod choice;
+mod fronts;
 mod index;
 mod laying;
 mod measuring;
 mod opened;
+mod opens;
 mod room;
-mod sources;
+mod source;
 mod text;
 mod told;
 
@@ -23,6 +25,7 @@ pub use index::Index;
 pub use laying::fill;
 pub use opened::open;
 pub use room::check_rooms;
+pub use source::Source;
 pub use told::Told;
 
 /// In each form, what is filled is opened, and stands for the set; what is told of a set is what its form says of it; and neither

@@ -1,11 +1,12 @@
-// Opening an index of any form from the fronts of two memories.
+// Opening an index of any form, from a source or from the fronts of two memories.
 ghost use Rattle.std.specs.Prelude.{◌≡◌, IfOk};
 ghost use Rattle.forms.specs.Meant.{meant_of, Holds};
 ghost use Rattle.forms.specs.Opening.{opening_told, OpeningIs, decoding_told};
+ghost use Rattle.forms.specs.Sources.{opening_given, GivenIs, decoding_given, GivenDecodes, HoldsGiven};
 ghost use Rattle.forms.specs.Verdicts.{verdict_of};
 
 use super::index::Index;
-use super::sources::{list_source, pioneer_source, plain_source, zombit_source};
+use super::source::Source;
 use super::told::Told;
 use faults::Fault;
 use list::List;
@@ -18,12 +19,29 @@ use zombit::Zombit;
 fn opened<X: Opens>(index: X, source: X::Source) -> Result<X, Fault>
     ensures answer { verdict_of result ≡ X.Opens.verdict source }
     ensures law { X.Opens.due source (verdict_of result) }
+    ensures decodes { X.Opens.decodes source (X.Opens.decoding source) }
     ensures holds { IfOk result (λ x. X.Opens.holding x source) }
     ensures means { IfOk result (λ x. X.Walking.meant x ≡ X.Opens.decoding source) }
 {
     let mut index = index;
     index.open(source)?;
     Ok(index)
+}
+
+// The index of the source, of the form that the source has.
+pub(crate) fn index_of<'a>(source: Source<'a>) -> Result<Index<'a>, Fault>
+    ensures answer { verdict_of result ≡ opening_given source.entry }
+    ensures law { GivenIs source.entry (verdict_of result) }
+    ensures decodes { GivenDecodes source.entry (decoding_given source.entry) }
+    ensures holds { IfOk result (λ index. HoldsGiven index source.entry) }
+    ensures means { IfOk result (λ index. meant_of index ≡ decoding_given source.entry) }
+{
+    match source {
+        Source::Plain(source) => Ok(Index::Plain(opened(Plain::empty(), source)?)),
+        Source::List(source) => Ok(Index::List(opened(List::empty(), source)?)),
+        Source::Zombit(source) => Ok(Index::Zombit(opened(Zombit::empty(), source)?)),
+        Source::Pioneer(source) => Ok(Index::Pioneer(opened(Pioneer::empty(), source)?)),
+    }
 }
 
 /// Opens the index whose parts stand at the fronts of the two memories, at the lengths and with the numbers told. A part that is
@@ -34,12 +52,5 @@ pub fn open<'a>(told: Told, bytes: &'a [u8], numbers: &'a [u16]) -> Result<Index
     ensures holds { IfOk result (λ index. Holds index told bytes.now numbers.now) }
     ensures means { IfOk result (λ index. meant_of index ≡ decoding_told told bytes.now numbers.now) }
 {
-    Ok(match told {
-        Told::Plain(told) => Index::Plain(opened(Plain::empty(), plain_source(told, bytes))?),
-        Told::List(told) => Index::List(opened(List::empty(), list_source(told, numbers))?),
-        Told::Zombit(told) => Index::Zombit(opened(Zombit::empty(), zombit_source(told, bytes))?),
-        Told::Pioneer(told) => {
-            Index::Pioneer(opened(Pioneer::empty(), pioneer_source(told, bytes))?)
-        }
-    })
+    index_of(Source::told(told, bytes, numbers))
 }
