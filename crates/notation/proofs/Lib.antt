@@ -1,1 +1,6 @@
 -- The lemmas of this crate.
+pub mod Numerals
+pub mod NumberLists
+pub mod NumberTexts
+pub mod ByteTexts
+pub mod Wording

@@ -6,6 +6,9 @@ ghost use Rattle.notation.specs.Numbers.{number_of};
 pub fn read_number(word: &[u8], most: u32) -> Option<u32>
     ensures { result ≡ number_of most word.now }
 {
+    if word.is_empty() {
+        return None;
+    }
     let mut worth: u32 = 0;
     for digit in word {
         if !digit.is_ascii_digit() {
@@ -15,9 +18,5 @@ pub fn read_number(word: &[u8], most: u32) -> Option<u32>
             .checked_mul(10)?
             .checked_add(u32::from(*digit - b'0'))?;
     }
-    if word.is_empty() || most < worth {
-        None
-    } else {
-        Some(worth)
-    }
+    if worth <= most { Some(worth) } else { None }
 }

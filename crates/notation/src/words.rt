@@ -1,6 +1,7 @@
 // The words of a line, one after another.
 ghost use Rattle.std.specs.Prelude.{◌≡◌, ℕ, List, [], ◌∷◌, MatchOption};
-ghost use Rattle.notation.specs.Words.{words_of};
+ghost use Rattle.std.specs.List.{position_or_len};
+ghost use Rattle.notation.specs.Words.{is_blank, words_of};
 
 use std::marker::Model;
 
@@ -16,6 +17,15 @@ impl<'a> Model for Words<'a> {
     ghost view = { λ w. words_of w.rest.now };
 }
 
+// Where the first blank stands, or the end.
+fn first_blank(line: &[u8]) -> usize
+    ensures { result ≡ position_or_len is_blank line.now }
+{
+    line.iter()
+        .position(|c| c.is_ascii_whitespace())
+        .unwrap_or(line.len())
+}
+
 impl<'a> Words<'a> {
     /// All words of a line.
     pub fn of(line: &'a [u8]) -> Words<'a>
@@ -29,11 +39,7 @@ impl<'a> Words<'a> {
         ensures { MatchOption result ((self.old ≡ []) × (self.new ≡ [])) (λ word. self.old ≡ word.now ∷ self.new) }
     {
         let line = self.rest.trim_ascii_start();
-        let end = line
-            .iter()
-            .position(u8::is_ascii_whitespace)
-            .unwrap_or(line.len());
-        let (word, rest) = line.split_at(end);
+        let (word, rest) = line.split_at(first_blank(line));
         self.rest = rest;
         if word.is_empty() { None } else { Some(word) }
     }
