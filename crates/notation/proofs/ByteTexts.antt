@@ -14,7 +14,7 @@ use Rattle.notation.specs.Parts.{bytes_of, bytes_text}
 use Rattle.notation.specs.Words.{is_blank, IsWord}
 
 -- a longer text is not `-`
-is_dash-long : (text : List ℕ) → 1 < length text → is_dash text ≡ false
+pub is_dash-long : (text : List ℕ) → 1 < length text → is_dash text ≡ false
 is_dash-long [] h = refl
 is_dash-long (c ∷ []) h = absurd (omega arith)
 is_dash-long (c ∷ d ∷ text) h = and_right _ _ refl
@@ -45,7 +45,7 @@ bytes_text-some [] some = absurd (omega arith)
 bytes_text-some (b ∷ bytes) some = refl
 
 -- all bytes, by their places
-IsBytes-All : (bytes : List ℕ) → All (λ b. b < 2 ^ 8) bytes → IsBytes bytes
+pub IsBytes-All : (bytes : List ℕ) → All (λ b. b < 2 ^ 8) bytes → IsBytes bytes
 IsBytes-All bytes h i =
     elim (cases_lt i (length bytes)) [
       | inl within ↦ All-get_or (λ b. b < 2 ^ 8) bytes i 0 within h

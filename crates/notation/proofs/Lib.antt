@@ -3,4 +3,6 @@ pub mod Numerals
 pub mod NumberLists
 pub mod NumberTexts
 pub mod ByteTexts
+pub mod LetterCases
+pub mod LeadingZeros
 pub mod Wording

@@ -1,5 +1,6 @@
 // The laws of words, numbers and parts. There is nothing to run: the contracts are the theorems.
-ghost use Rattle.std.specs.Prelude.{◌≡◌, ◌<◌, ◌≤◌, ◌^◌, ℕ, List, [], ◌∷◌, ◌++◌, All, IsTrue, Some, decimal};
+ghost use Rattle.std.specs.Prelude.{◌≡◌, ◌<◌, ◌≤◌, ◌^◌, ℕ, List, [], ◌∷◌, ◌++◌, All, IsTrue, Some, decimal, replicate};
+ghost use Rattle.std.specs.Str.{str_to_ascii_lowercase};
 ghost use Rattle.notation.specs.Words.{is_blank, spaced, words_of, IsWord};
 ghost use Rattle.notation.specs.Numbers.{number_of, numbers_of, numbers_text};
 ghost use Rattle.notation.specs.Parts.{bytes_of, bytes_text};
@@ -22,4 +23,14 @@ pub fn reads_back()
     ensures numbers_word { (ns : List ℕ) → All (λ n. n < 2 ^ 16) ns → IsWord (numbers_text ns) }
     ensures bytes { (bs : List ℕ) → All (λ b. b < 2 ^ 8) bs → bytes_of (bytes_text bs) ≡ Some bs }
     ensures bytes_word { (bs : List ℕ) → All (λ b. b < 2 ^ 8) bs → IsWord (bytes_text bs) }
+{}
+
+/// Which words are read as a number, and which as bytes: what is written of them, with zeros in front, and with letters in either case.
+pub fn reads_exactly()
+    ensures number { (most n : ℕ) (word : List ℕ) → most < 2 ^ 32 → number_of most word ≡ Some n
+        → (n ≤ most) × ((zeros : ℕ) × (word ≡ replicate zeros 48 ++ decimal n)) }
+    ensures zeros { (most zeros n : ℕ) → most < 2 ^ 32 → n ≤ most → number_of most (replicate zeros 48 ++ decimal n) ≡ Some n }
+    ensures bytes { (word bs : List ℕ) → bytes_of word ≡ Some bs
+        → All (λ b. b < 2 ^ 8) bs × (str_to_ascii_lowercase word ≡ bytes_text bs) }
+    ensures cases { (word bs : List ℕ) → All (λ b. b < 2 ^ 8) bs → str_to_ascii_lowercase word ≡ bytes_text bs → bytes_of word ≡ Some bs }
 {}

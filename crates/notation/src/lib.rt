@@ -9,7 +9,7 @@ mod numbers;
 mod words;
 
 pub use bytes::{read_bytes, write_bytes};
-pub use laws::{reads_back, words_hold};
+pub use laws::{reads_back, reads_exactly, words_hold};
 pub use number::read_number;
 pub use numbers::{read_numbers, write_numbers};
 pub use words::Words;
