@@ -27,7 +27,8 @@ pub fn read_bytes(alloc: Global, word: &[u8]) -> Result<Option<Vec<u8>>, AllocEr
     }
 }
 
-/// Writes bytes as two lower-case hex digits each, or `-` for none.
+/// Writes bytes behind a text, as two lower-case hex digits each, or `-` for none. What the text holds where there is no memory is left
+/// open.
 pub fn write_bytes(text: &mut String, bytes: &[u8]) -> Result<(), AllocError>
     ensures { OnOk result (string_bytes text.new ≡ string_bytes text.old ++ bytes_text bytes.now) }
 {

@@ -25,7 +25,8 @@ pub fn reads_back()
     ensures bytes_word { (bs : List ℕ) → All (λ b. b < 2 ^ 8) bs → IsWord (bytes_text bs) }
 {}
 
-/// Which words are read as a number, and which as bytes: what is written of them, with zeros in front, and with letters in either case.
+/// Which words are read as a number and which as bytes: just what is written of them, where a number may have zeros in front, and a hex
+/// digit may be of either case.
 pub fn reads_exactly()
     ensures number { (most n : ℕ) (word : List ℕ) → most < 2 ^ 32 → number_of most word ≡ Some n
         → (n ≤ most) × ((zeros : ℕ) × (word ≡ replicate zeros 48 ++ decimal n)) }

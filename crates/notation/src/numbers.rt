@@ -26,7 +26,8 @@ pub fn read_numbers(alloc: Global, word: &[u8]) -> Result<Option<Vec<u16>>, Allo
     Ok(Some(numbers))
 }
 
-/// Writes numbers in decimal with a comma between each two, or `-` for none.
+/// Writes numbers behind a text, in decimal with a comma between each two, or `-` for none. What the text holds where there is no
+/// memory is left open.
 pub fn write_numbers(text: &mut String, numbers: &[u16]) -> Result<(), AllocError>
     ensures { OnOk result (string_bytes text.new ≡ string_bytes text.old ++ numbers_text numbers.now) }
 {
