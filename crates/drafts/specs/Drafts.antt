@@ -1,7 +1,6 @@
 -- What a draft is: its form, what opening its parts answers, and the set that they stand for.
-use Rattle.std.specs.Prelude.{◌≡◌, Bool, List, Ok, Err, Result}
+use Rattle.std.specs.Prelude.{◌≡◌, Bool, List}
 use Rattle.faults.specs.Checks.{Verdict}
-use Rattle.faults.specs.declared.fault.Refusal.{Refusal}
 use Rattle.forms.specs.declared.choice.Choice.{Choice}
 use Rattle.forms.specs.Opening.{opening_told, decoding_told}
 use Rattle.forms.specs.Telling.{choice_told}
@@ -19,8 +18,3 @@ set_drafted d = decoding_told d.told d.bytes.items d.numbers.items
 -- the same index, in whatever memory
 abbrev pub SameDraft : Draft → Draft → Type 0
 SameDraft d e = (e.told ≡ d.told) × (e.bytes.items ≡ d.bytes.items) × (e.numbers.items ≡ d.numbers.items)
-
--- whether an answer refuses, and why
-abbrev pub refusal_of : {A : Type 0} → Result A Refusal → Result (Unit {0}) Refusal
-refusal_of (Ok _) = Ok tt
-refusal_of (Err e) = Err e

@@ -1,3 +1,4 @@
 -- The definitions of this crate.
+pub mod Refusing
 pub mod Drafts
 pub mod Storing

@@ -40,8 +40,8 @@ impl Stored {
         }))
     }
 
-    // The same in a form that has such blocks, so that nothing refuses.
-    pub(crate) fn anew<S: Walking>(
+    // The index of the set in a form that has such blocks, so that nothing refuses.
+    pub(crate) fn of<S: Walking>(
         alloc: Global,
         set: &S,
         choice: Choice,
@@ -56,6 +56,6 @@ impl Stored {
     pub fn built_in(alloc: Global) -> Result<Stored, AllocError>
         ensures { IfOk result (IsFilled Choice.Plain (false ∷ [])) }
     {
-        Stored::anew(alloc, &Plain::empty(), Choice::Plain)
+        Stored::of(alloc, &Plain::empty(), Choice::Plain)
     }
 }

@@ -2,7 +2,8 @@
 ghost use Rattle.std.specs.Prelude.{◌≡◌, length, IfOk, OnErr};
 ghost use Rattle.faults.specs.Bays.{bays_check, BaysAre};
 ghost use Rattle.layers.specs.Layers.{turned, level};
-ghost use Rattle.drafts.specs.Drafts.{choice_drafted, refusal_of};
+ghost use Rattle.drafts.specs.Drafts.{choice_drafted};
+ghost use Rattle.drafts.specs.Refusing.{refusal_of};
 ghost use Rattle.drafts.specs.Storing.{stored_set, IsFilled};
 
 use super::stored::Stored;
@@ -15,7 +16,7 @@ impl Stored {
     pub fn turned(&self, alloc: Global) -> Result<Stored, AllocError>
         ensures { IfOk result (IsFilled (choice_drafted self.now.draft) (turned (stored_set self.now))) }
     {
-        Stored::anew(alloc, &Turned::new(self.index()), self.choice())
+        Stored::of(alloc, &Turned::new(self.index()), self.choice())
     }
 
     /// The bays `a` to `b` of the set, the same.
@@ -32,7 +33,7 @@ impl Stored {
             IfOk made (IsFilled (choice_drafted self.now.draft) (level a b (stored_set self.now)))) }
     {
         match Level::new(self.index(), a, b) {
-            Ok(below) => Ok(Ok(Stored::anew(alloc, &below, self.choice())?)),
+            Ok(level) => Ok(Ok(Stored::of(alloc, &level, self.choice())?)),
             Err((_, refusal)) => Ok(Err(refusal)),
         }
     }

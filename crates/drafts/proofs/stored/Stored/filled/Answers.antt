@@ -14,7 +14,7 @@ unwrap-requires g c =
     let bytes = c.deref_mut.result.now in
     let numbers = c.deref_mut-2.result.now in
     let long : length bytes ≡ bytes_told told =
-        c.deref_mut.ensures.len ∙ as_told _ _ _ (c.in_ok-bytes.ensures.len ∙ c.bytes.ensures) (omega (arith, c.in_ok-bytes.bytes.small)) in
+    c.deref_mut.ensures.len ∙ as_told _ _ _ (c.in_ok-bytes.ensures.len ∙ c.bytes.ensures) (omega (arith, c.in_ok-bytes.bytes.small)) in
     let numbers_long : length numbers ≡ numbers_told told = c.deref_mut-2.ensures.len ∙ c.in_ok-numbers.ensures.len ∙ c.numbers.ensures in
     is_ok c.fill.result (c.fill.ensures.answer ∙ all_fit x s c.in-Ok.ensures.law.0 told c.in-Ok.ensures.told bytes numbers long numbers_long)
 
@@ -26,14 +26,14 @@ invariant_of-result g c =
     let bytes = c.deref_mut.result.now in
     let numbers = c.deref_mut-2.result.now in
     let long : length bytes ≡ bytes_told told =
-        c.deref_mut.ensures.len ∙ as_told _ _ _ (c.in_ok-bytes.ensures.len ∙ c.bytes.ensures) (omega (arith, c.in_ok-bytes.bytes.small)) in
+    c.deref_mut.ensures.len ∙ as_told _ _ _ (c.in_ok-bytes.ensures.len ∙ c.bytes.ensures) (omega (arith, c.in_ok-bytes.bytes.small)) in
     let numbers_long : length numbers ≡ numbers_told told = c.deref_mut-2.ensures.len ∙ c.in_ok-numbers.ensures.len ∙ c.numbers.ensures in
     let kept = c.in_ok-bytes.bytes in
     let numbers_kept = c.in_ok-numbers.numbers in
     let back = refilled kept.len c.fill.new.bytes kept.items kept.ok.0 (c.fill.auto.bytes ∙ ap length c.deref_mut.ensures.value) in
     let numbers_back = refilled numbers_kept.len c.fill.new.numbers numbers_kept.items numbers_kept.ok.0 (c.fill.auto.numbers ∙ ap length c.deref_mut-2.ensures.value) in
     let all = whole x s c.in-Ok.ensures.law.0 told c.in-Ok.ensures.told bytes numbers long numbers_long (g.met.S.Walking.sized c.args.set.now)
-        (verdict_of c.fill.result) c.fill.ensures.answer _ _ (back ∙ c.fill.ensures.bytes) (numbers_back ∙ c.fill.ensures.numbers) in
+    (verdict_of c.fill.result) c.fill.ensures.answer _ _ (back ∙ c.fill.ensures.bytes) (numbers_back ∙ c.fill.ensures.numbers) in
     record { opens = all.opens }
 
 pub returns-clause-filled : goal.returns-clause-filled
@@ -44,12 +44,12 @@ returns-clause-filled g c =
     let bytes = c.deref_mut.result.now in
     let numbers = c.deref_mut-2.result.now in
     let long : length bytes ≡ bytes_told told =
-        c.deref_mut.ensures.len ∙ as_told _ _ _ (c.in_ok-bytes.ensures.len ∙ c.bytes.ensures) (omega (arith, c.in_ok-bytes.bytes.small)) in
+    c.deref_mut.ensures.len ∙ as_told _ _ _ (c.in_ok-bytes.ensures.len ∙ c.bytes.ensures) (omega (arith, c.in_ok-bytes.bytes.small)) in
     let numbers_long : length numbers ≡ numbers_told told = c.deref_mut-2.ensures.len ∙ c.in_ok-numbers.ensures.len ∙ c.numbers.ensures in
     let kept = c.in_ok-bytes.bytes in
     let numbers_kept = c.in_ok-numbers.numbers in
     let back = refilled kept.len c.fill.new.bytes kept.items kept.ok.0 (c.fill.auto.bytes ∙ ap length c.deref_mut.ensures.value) in
     let numbers_back = refilled numbers_kept.len c.fill.new.numbers numbers_kept.items numbers_kept.ok.0 (c.fill.auto.numbers ∙ ap length c.deref_mut-2.ensures.value) in
     let all = whole x s c.in-Ok.ensures.law.0 told c.in-Ok.ensures.told bytes numbers long numbers_long (g.met.S.Walking.sized c.args.set.now)
-        (verdict_of c.fill.result) c.fill.ensures.answer _ _ (back ∙ c.fill.ensures.bytes) (numbers_back ∙ c.fill.ensures.numbers) in
+    (verdict_of c.fill.result) c.fill.ensures.answer _ _ (back ∙ c.fill.ensures.bytes) (numbers_back ∙ c.fill.ensures.numbers) in
     record { choice = all.choice; told = c.in-Ok.ensures.told; bytes = all.bytes_are; numbers = all.numbers_are; set = all.means }
