@@ -6,7 +6,9 @@ mod draft;
 mod filled;
 mod layered;
 mod opened;
+mod pair;
 mod stored;
 
 pub use draft::Draft;
+pub use pair::open_both;
 pub use stored::Stored;
