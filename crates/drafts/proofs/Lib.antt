@@ -1,3 +1,4 @@
 -- The lemmas of this crate.
 pub mod Whole
 pub mod Answered
+pub mod Written

@@ -2,3 +2,4 @@
 pub mod Refusing
 pub mod Drafts
 pub mod Storing
+pub mod Texts

@@ -8,7 +8,9 @@ mod layered;
 mod opened;
 mod pair;
 mod stored;
+mod text;
 
 pub use draft::Draft;
 pub use pair::open_both;
 pub use stored::Stored;
+pub use text::write_draft;
