@@ -1,5 +1,5 @@
 -- The text of a draft, form by form, from what its index opens from.
-use Rattle.std.proofs.Common.{◌≡◌, ℕ, List, ◌∷◌, ◌++◌, map, sym}
+use Rattle.std.proofs.Common.{◌≡◌, ◌∷◌, ◌++◌, map, sym}
 use Rattle.std.specs.Prelude.{decimal}
 use Rattle.forms.specs.Choices.{by_width}
 use Rattle.forms.specs.Sources.{choice_given, numbers_given, parts_given}
