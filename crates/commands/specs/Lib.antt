@@ -1,0 +1,7 @@
+-- The definitions of this crate.
+pub mod Reading
+pub mod Kinds
+pub mod Said
+pub mod Sentences
+pub mod Lines
+pub mod Texts
