@@ -5,3 +5,4 @@ pub mod Said
 pub mod Sentences
 pub mod Lines
 pub mod Texts
+pub mod Writing

@@ -1,10 +1,9 @@
 -- How each command is read, word by word.
-use Rattle.std.specs.Prelude.{ℕ, List, [], ◌++◌, length, Result}
+use Rattle.std.specs.Prelude.{ℕ, List, Result}
 use Rattle.faults.specs.declared.fault.Form.{Form}
 use Rattle.faults.specs.declared.fault.Form.TheVariants as forms
 use Rattle.forms.specs.declared.choice.Choice.{Choice}
 use Rattle.forms.specs.declared.choice.Choice.TheVariants as choices
-use Rattle.forms.specs.declared.told.Told.TheVariants as told
 use Rattle.replay.specs.declared.calls.Call.TheVariants as calls
 use Rattle.commands.specs.declared.command.Question.{Question}
 use Rattle.commands.specs.declared.command.Question.TheVariants as questions
@@ -18,20 +17,20 @@ use Rattle.commands.specs.declared.names.Name.TheVariants as names
 use Rattle.commands.specs.Kinds.{name, slot, form, asked, sort, number, sheet_number, bytes, numbers}
 use Rattle.commands.specs.Reading.{Reader, ◌>>=◌, done, ended}
 use Rattle.commands.specs.Said as says
-use Rattle.commands.specs.Said.{Said, Written}
+use Rattle.commands.specs.Said.{Said, Written, plain_written, list_written, zombit_written, pioneer_written}
 
--- NUMBERS and PARTS of each form
+-- an index of each form: its numbers, and then its parts
 unfoldable pub plain_index : Reader Written
 plain_index = do
   last ← number
   bits ← bytes
-  done (record { told = told.Plain (record { last = last; bits = length bits }); bytes = bits; numbers = [] })
+  done (plain_written last bits)
 
 unfoldable pub list_index : Reader Written
 list_index = do
   last ← number
   members ← numbers
-  done (record { told = told.List (record { last = last; numbers = length members }); bytes = []; numbers = members })
+  done (list_written last members)
 
 unfoldable pub zombit_index : Reader Written
 zombit_index = do
@@ -40,11 +39,7 @@ zombit_index = do
   uniform ← bytes
   marked ← bytes
   mixed ← bytes
-  done (record {
-    told = told.Zombit (record { last = last; size = size; uniform = length uniform; marked = length marked; mixed = length mixed });
-    bytes = uniform ++ marked ++ mixed;
-    numbers = [];
-  })
+  done (zombit_written last size uniform marked mixed)
 
 unfoldable pub pioneer_index : Reader Written
 pioneer_index = do
@@ -52,11 +47,7 @@ pioneer_index = do
   count ← number
   starts ← bytes
   sums ← bytes
-  done (record {
-    told = told.Pioneer (record { last = last; count = count; starts = length starts; sums = length sums });
-    bytes = starts ++ sums;
-    numbers = [];
-  })
+  done (pioneer_written last count starts sums)
 
 unfoldable pub index_of : Form → Reader Written
 index_of forms.Plain = plain_index

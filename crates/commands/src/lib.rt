@@ -4,6 +4,7 @@
 mod command;
 mod expected;
 mod indexes;
+mod laws;
 mod lines;
 mod names;
 mod naming;
@@ -14,4 +15,5 @@ mod text;
 
 pub use command::{Command, Question, Slot};
 pub use expected::{Expected, Unread};
+pub use laws::commands_hold;
 pub use lines::{LONGEST, read_line};
