@@ -6,14 +6,11 @@ use commands::{Command, Slot};
 use drafts::write_draft;
 use forms::{Choice, Index};
 use replay::Call;
-use replies::{Called, Reply};
+use replies::{Reply, call_round, write_called};
 use round::Round;
 use slots::{Slots, ask};
 use std::alloc::Global;
 use std::io::{Read, Write};
-
-// What each number of a sheet's memory is before the call.
-const BEFORE: u32 = 7;
 
 // Asks the round a call, and answers by what it answered; of a sheet also by all of its memory.
 fn call<R: Read + Drop, W: Write + Drop>(
@@ -22,16 +19,8 @@ fn call<R: Read + Drop, W: Write + Drop>(
     call: Call,
     talk: &mut Talk<R, W>,
 ) -> Result<()> {
-    let room = match call {
-        Call::Sheet(n) => n as usize,
-        _ => 0,
-    };
-    let mut memory = vec![in alloc; BEFORE; room]?;
-    let answer = replay::ask(round, call, &mut memory);
-    talk.write(Reply::Called(Called(answer)))?;
-    for number in &memory {
-        write!(talk.answers(), " {number}")?;
-    }
+    let (called, memory) = call_round(alloc, round, call)?;
+    write_called(talk.answers(), called, &memory)?;
     talk.end_line()
 }
 

@@ -8,7 +8,7 @@ use Rattle.opening.specs.declared.fault.Side.TheVariants.{F, C}
 use Rattle.replay.specs.declared.calls.Answer.{Answer}
 use Rattle.replay.specs.declared.calls.Answer.TheVariants as answer
 use Rattle.replies.specs.declared.reply.Reply.{Reply}
-use Rattle.replies.specs.declared.reply.Reply.TheVariants.{Done, Number, Bay, Holds, Refused, Faulty, FaultyPair, Called, Closed, NoRound}
+use Rattle.replies.specs.declared.reply.Reply.TheVariants.{Done, Number, Bay, Holds, Refused, Faulty, FaultyPair, Closed, NoRound}
 use Rattle.round.specs.Texts.{taken_text, report_text}
 
 -- the slot of a side
@@ -49,6 +49,5 @@ reply_text (Holds false) = codes "no"
 reply_text (Refused e) = refusal_text e
 reply_text (Faulty x) = fault_text x
 reply_text (FaultyPair x) = fault_text x.fault ++ (codes " " ++ slot_name x.side)
-reply_text (Called x) = called_text x.0
 reply_text (Closed r) = report_text r
 reply_text NoRound = codes "no round"

@@ -19,7 +19,6 @@ pub enum Reply {
     Refused(Refusal),
     Faulty(Fault),
     FaultyPair(PairFault),
-    Called(Called),
     Closed(Report),
     NoRound,
 }

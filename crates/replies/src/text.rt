@@ -44,7 +44,6 @@ impl fmt::Display for Reply {
                 Side::F => write!(f, "{} free", pair.fault),
                 Side::C => write!(f, "{} class", pair.fault),
             },
-            Reply::Called(called) => write!(f, "{called}"),
             Reply::Closed(report) => write!(f, "{report}"),
             Reply::NoRound => f.write_str("no round"),
         }
