@@ -115,6 +115,10 @@ impl<R: Read + Drop, W: Write + Drop> Talk<R, W> {
                 }
                 Err(Unread::Memory(error)) => return Err(error.into()),
             }
+            // On a terminal more could be read behind the end of the input.
+            if !ended {
+                break;
+            }
         }
         Ok(None)
     }
