@@ -1,6 +1,7 @@
 -- The lemmas of this crate.
 pub mod Numerals
 pub mod NumberLists
+pub mod NumberWords
 pub mod NumberTexts
 pub mod ByteTexts
 pub mod LetterCases

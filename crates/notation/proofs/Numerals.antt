@@ -6,6 +6,7 @@ use Rattle.std.specs.List.{list_all}
 use Rattle.std.specs.Str.Parse.{digits_value, AllDigits}
 use Rattle.std.proofs.lemmas.Bool.{and_parts, cases_Bool, le-leb, leb-true, lt-ltb, ltb-true}
 use Rattle.std.proofs.lemmas.Int.Digits.{digits_more, digits_value_more}
+use Rattle.std.proofs.lemmas.Option.{cond_some}
 use Rattle.std.proofs.lemmas.Str.Parse.{digit_at, digits_value-take-le, numerals_by_weight, IsNumeralModel}
 use Rattle.notation.specs.Numbers.{number_of, worth}
 
@@ -33,6 +34,13 @@ number_of-none most word not_so =
           absurd (not_so (ltb-true 0 (length word) parts.0) digits (rw (← numerals.same word digits) (leb-true (worth word) most more.1)))
       | inr otherwise ↦ rw otherwise refl
     ]
+
+-- a word that is a number is of digits
+pub digits-from_number_of : (most : ℕ) (word : List ℕ) (n : ℕ) → number_of most word ≡ Some n → (0 < length word) × AllDigits 10 word
+unfolding number_of
+digits-from_number_of most word n h =
+    let parts = and_parts _ _ (cond_some _ _ _ h).0 in
+    (ltb-true 0 (length word) parts.0, numerals.to word (and_parts _ _ parts.1).0)
 
 -- where an element is no digit, there is no number
 pub number_of-stopped : (most : ℕ) (word : List ℕ) (i : ℕ) → i < length word → IsNotAsciiDigit (get_or word i 0)

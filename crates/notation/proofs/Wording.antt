@@ -1,13 +1,13 @@
 -- The words of a line that is made of others.
-use Rattle.std.proofs.Common.{◌≡◌, ℕ, zero, suc, ◌+◌, ◌<◌, ◌≤◌, ◌&&◌, Bool, true, false, not, List, [], ◌∷◌, ◌++◌, length, take, drop, get_or, refl, sym, ap, ◌∙◌, arith, add-zero, inl, inr}
+use Rattle.std.proofs.Common.{◌≡◌, ℕ, zero, suc, ◌+◌, ◌<◌, ◌≤◌, Bool, true, false, not, List, [], ◌∷◌, ◌++◌, length, take, drop, get_or, refl, sym, ap, ◌∙◌, arith, add-zero, inl, inr}
 use Rattle.std.specs.Prelude.{filter, nat_lt, position}
-use Rattle.std.specs.List.{All, list_all, onto_first, position_or_len, slice_split}
+use Rattle.std.specs.List.{All, onto_first, position_or_len, slice_split}
 use Rattle.std.specs.Str.{IsTrimAsciiStart}
 use Rattle.std.specs.Option.{unwrap_or}
-use Rattle.std.proofs.lemmas.Bool.{and_parts, cases_Bool, cases_lt, le-ltb, lt-ltb, ltb-true, not-true}
+use Rattle.std.proofs.lemmas.Bool.{cases_Bool, cases_lt, le-ltb, lt-ltb, ltb-true}
 use Rattle.std.proofs.lemmas.List.Elements.{All-cons, All-filter, All-from_get_or, All-head, All-nil, All-tail, filter-append, filter_passes}
 use Rattle.std.proofs.lemmas.List.{drop_all, drop_more, get_or-drop, get_or-take, length-take, length-take-le, nil_from_length, take_all}
-use Rattle.std.proofs.lemmas.List.Sums.{AllPass-from_list_all, fails_before_first, prefix_len-le-length, passes_at_first, split_at_first}
+use Rattle.std.proofs.lemmas.List.Sums.{fails_before_first, prefix_len-le-length, passes_at_first, split_at_first}
 use Rattle.std.proofs.lemmas.List.Splits.{length-slice_split, slice_split-cons_no, slice_split-cons_yes, slice_split_none}
 use Rattle.notation.specs.Words.{is_blank, spaced, words_of, IsWord}
 
@@ -31,13 +31,6 @@ slice_split-append p (x ∷ front) c rest h =
           ∙ onto_first-append x (slice_split p front) (slice_split p rest) some
           ∙ ap (λ parts. parts ++ slice_split p rest) (sym (slice_split-cons_no p x front not_here))
     ]
-
--- a text is a word by a test, which computes where it is written out
-pub IsWord-from_test : (text : List ℕ) → (nat_lt 0 (length text) && list_all (λ c. not (is_blank c)) text) ≡ true → IsWord text
-IsWord-from_test text h =
-    let parts = and_parts _ _ h in
-    let passes = AllPass-from_list_all (λ c. not (is_blank c)) text parts.1 in
-    record { some = ltb-true 0 (length text) parts.0; unbroken = λ k d within. not-true (is_blank (get_or text k d)) (passes k d within) }
 
 -- nothing has no words
 pub words_of-nil : words_of [] ≡ []
