@@ -5,3 +5,5 @@ pub mod Written
 pub mod Spoken
 pub mod Sayings
 pub mod Texted
+pub mod Stops
+pub mod Places

@@ -173,7 +173,7 @@ sentence_keeps names.Pick front words x heard e = numbered calls.Pick names.Pick
 sentence_keeps names.Close front words x heard e = subst (IsHeard front) (read_is (says.Close, words) x e) (heard, tt)
 
 -- all of the words
-ended_ok : (read : Result (Said × List (List ℕ)) Expected) (x : Said) → ended read ≡ Ok x → read ≡ Ok (x, [])
+pub ended_ok : (read : Result (Said × List (List ℕ)) Expected) (x : Said) → ended read ≡ Ok x → read ≡ Ok (x, [])
 ended_ok (Err e) x h = absurd cc
 ended_ok (Ok (y, [])) x h = let is : y ≡ x = read_is y x h in ap (λ (z : Said). Ok (z, [])) is
 ended_ok (Ok (y, word ∷ words)) x h = absurd cc

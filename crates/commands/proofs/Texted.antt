@@ -12,8 +12,9 @@ use Rattle.std.proofs.lemmas.Str.Ascii.{IsAscii-cons, IsAscii-nil}
 use Rattle.faults.specs.Texts.{form_name}
 use Rattle.faults.specs.declared.fault.Form.{Form}
 use Rattle.faults.specs.declared.fault.Form.TheVariants as forms
-use Rattle.forms.specs.Choices.{form_of}
-use Rattle.forms.specs.Telling.{choice_told}
+use Rattle.forms.specs.Choices.{form_of, by_width}
+use Rattle.forms.specs.Opening.{fronts_told}
+use Rattle.forms.specs.Telling.{choice_told, opening_numbers}
 use Rattle.forms.specs.declared.choice.Choice.{Choice}
 use Rattle.forms.specs.declared.choice.Choice.TheVariants as choices
 use Rattle.forms.specs.declared.told.Told.{Told}
@@ -255,3 +256,13 @@ line_said x whole fits short =
     let words : words_of (said_text x) ≡ map piece_text (pieces x) = words_of-spaced (map piece_text (pieces x)) both.1 in
     let read : reading (map piece_text (pieces x)) ≡ Ok x = reading_hears (map piece_text (pieces x)) x whole (say_texts (pieces x) fits) in
     rw (begins.0, room, begins.1, text, words, read) refl
+
+-- ---- an index is said in the words of a draft
+
+pub index_words : (t : Told) (bs ns : List ℕ)
+    → map piece_text (index_pieces (record { told = t; bytes = bs; numbers = ns }))
+    ≡ map decimal (opening_numbers t) ++ map (λ part. by_width (choice_told t) (bytes_text part) (numbers_text part)) (fronts_told t bs ns)
+index_words (told.Plain t) bs ns = refl
+index_words (told.List t) bs ns = refl
+index_words (told.Zombit t) bs ns = refl
+index_words (told.Pioneer t) bs ns = refl

@@ -6,3 +6,4 @@ pub mod Sentences
 pub mod Lines
 pub mod Texts
 pub mod Writing
+pub mod Wanting

@@ -13,6 +13,7 @@ abbrev pub is_comment : List ℕ → Bool
 is_comment [] = false
 is_comment (c ∷ line) = c == 35
 
+-- a command that was read is one that is not passed over
 abbrev pub some_command : Result Said Expected → Result (Option Said) Expected
 some_command (Ok x) = Ok (Some x)
 some_command (Err e) = Err e

@@ -100,9 +100,12 @@ pieces says.Round = Name (codes "round") ∷ []
 pieces (says.Call x) = call_pieces x
 pieces says.Close = Name (codes "close") ∷ []
 
--- the command in a line, each word in the notation of answers
+-- the words of a command, each in the notation of answers; and the command in a line
+abbrev pub said_words : Said → List (List ℕ)
+said_words x = map piece_text (pieces x)
+
 abbrev pub said_text : Said → List ℕ
-said_text x = spaced (map piece_text (pieces x))
+said_text x = spaced (said_words x)
 
 -- the parts of an index fill its memories
 abbrev pub IsFull : Written → Type 0
