@@ -1,6 +1,8 @@
 // The commands that change what a slot holds.
-ghost use Rattle.std.specs.Prelude.{◌≡◌, IfOk, OnErr};
+ghost use Rattle.std.specs.Prelude.{◌≡◌, length, IfOk, OnErr};
 ghost use Rattle.commands.specs.Said.{written};
+ghost use Rattle.faults.specs.Bays.{bays_check};
+ghost use Rattle.forms.specs.Choices.{layout_of};
 ghost use Rattle.slots.specs.Changes.{opened, both_opened, refilled, turned_over, levelled};
 ghost use Rattle.layers.specs.Layers.{turned, level};
 ghost use Rattle.slots.specs.Held.{held, set_in};
@@ -44,6 +46,7 @@ impl Slots {
         ensures answer { IfOk result (λ reply. record { reply = reply; held = held self.new } ≡ refilled slot choice (held self.old)) }
         ensures set { IfOk result (λ _. set_in slot (held self.new) ≡ set_in slot (held self.old)) }
         ensures memory { OnErr result (self.new ≡ self.old) }
+        ensures unrefused { OnErr result ((layout_of choice).measuring ≡ Ok tt) }
     {
         Ok(
             match Stored::filled(alloc, &self.of(slot).index(), choice)? {
@@ -72,6 +75,7 @@ impl Slots {
         ensures answer { IfOk result (λ reply. record { reply = reply; held = held self.new } ≡ levelled slot a b (held self.old)) }
         ensures set { IfOk result (λ reply. reply ≡ Reply.Done → set_in slot (held self.new) ≡ level a b (set_in slot (held self.old))) }
         ensures memory { OnErr result (self.new ≡ self.old) }
+        ensures unrefused { OnErr result (bays_check a b (length (set_in slot (held self.old))) ≡ Ok tt) }
     {
         Ok(match self.of(slot).levelled(alloc, a, b)? {
             Ok(stored) => {
