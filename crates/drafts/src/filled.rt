@@ -40,7 +40,7 @@ impl Stored {
         }))
     }
 
-    // The index of the set in a form that has such blocks, so that nothing refuses.
+    // The index of the set in a form whose block size fits, so that nothing refuses.
     pub(crate) fn of<S: Walking>(
         alloc: Global,
         set: &S,
