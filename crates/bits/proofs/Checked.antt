@@ -5,7 +5,8 @@ use Rattle.faults.specs.declared.fault.Flaw.TheVariants.{Length, Content}
 use Rattle.std.proofs.lemmas.Bool.{cases_lt, both_ways, cond_both, eqb-true, eqb-false}
 use Rattle.sets.specs.Search.{first_from}
 use Rattle.sets.proofs.Tests.{FirstIs, first_law}
-use Rattle.bits.specs.Bits.{bit_at, bytes_for}
+use Rattle.bits.specs.Bits.{bit_at}
+use Rattle.sets.specs.Packing.{bytes_for}
 use Rattle.bits.specs.Checks.{Whole, Clear, CheckedIs, length_check, spare_check, bits_check}
 use Rattle.bits.proofs.Bytes.{bit_past}
 

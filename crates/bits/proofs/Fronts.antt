@@ -3,10 +3,9 @@ use Rattle.std.proofs.Common.{◌≡◌, ℕ, suc, ◌+◌, ◌-◌, ◌*◌, �
 use Rattle.std.proofs.lemmas.Bool.{cases_Bool, cases_eq, le-leb, eqb-true, ne_eqb, and_from, and_right, or_left}
 use Rattle.std.proofs.lemmas.List.{ext_get_or, get_or-replicate, length-replicate, length-set, get_or-set_same, get_or-set_other, get_or_append_left, set-append_left}
 use Rattle.sets.specs.Lists.{over}
-use Rattle.bits.specs.Bits.{bytes_for}
-use Rattle.bits.specs.Packing.{value_of, pack}
+use Rattle.sets.specs.Packing.{bytes_for, value_of, pack}
 use Rattle.bits.proofs.Values.{value_holds, value_only, held_same, value_same, none_held, or_held}
-use Rattle.bits.proofs.Packing.{bit, pack_length, pack_byte}
+use Rattle.sets.proofs.Packing.{bit, pack_length, pack_byte}
 
 -- ---- no bit is 1
 

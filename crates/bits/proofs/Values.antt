@@ -4,7 +4,7 @@ use Rattle.std.proofs.lemmas.Bool.{cases_eq, eq-eqb, ne_eqb, or_left}
 use Rattle.std.proofs.lemmas.Nat.{or_lt, pow_below}
 use Rattle.std.proofs.lemmas.Nat.Bits.{bit_at_or, bit_at-pow_same, bit_at-pow_other}
 use Rattle.bits.specs.Words.{digit, Holds}
-use Rattle.bits.specs.Packing.{digit_of, value_of}
+use Rattle.sets.specs.Packing.{digit_of, value_of}
 use Rattle.bits.proofs.Digits.{high_zero, half_digit}
 use Rattle.bits.proofs.Held.{miss}
 

@@ -1,5 +1,5 @@
 -- Bitvectors: rows of bits in bytes.
-use Rattle.std.specs.Prelude.{ℕ, ◌+◌, ◌-◌, ◌/◌, ◌%◌, ◌^◌, Bool, List, ◌==◌, slice_index}
+use Rattle.std.specs.Prelude.{ℕ, ◌-◌, ◌/◌, ◌%◌, ◌^◌, Bool, List, ◌==◌, slice_index}
 use Rattle.sets.specs.declared.Sort.{Sort}
 use Rattle.sets.specs.Made.{of_sort}
 
@@ -10,7 +10,3 @@ bit_at bytes i = slice_index bytes ((i - 1) / 8) / 2 ^ ((i - 1) % 8) % 2 == 1
 -- a bitvector is a set of numbers: its ones are the members
 abbrev pub is_bit : List ℕ → Sort → ℕ → Bool
 is_bit bytes sort = of_sort sort (bit_at bytes)
-
--- the bytes that n bits take
-abbrev pub bytes_for : ℕ → ℕ
-bytes_for n = (n + 7) / 8

@@ -4,7 +4,8 @@ use Rattle.faults.specs.Checks.{Check, none_found}
 use Rattle.faults.specs.Numbers.{FlawBy}
 use Rattle.faults.specs.declared.fault.Flaw.TheVariants.{Length, Content}
 use Rattle.sets.specs.Search.{first_from}
-use Rattle.bits.specs.Bits.{bit_at, bytes_for}
+use Rattle.bits.specs.Bits.{bit_at}
+use Rattle.sets.specs.Packing.{bytes_for}
 
 -- each demand by itself
 abbrev pub length_check : ℕ → List ℕ → Check

@@ -1,6 +1,7 @@
 // The law of the bytes of a bitvector.
 ghost use Rattle.std.specs.Prelude.{◌≡◌, ℕ, Bool, List};
-ghost use Rattle.bits.specs.Packing.{pack, Packs};
+ghost use Rattle.bits.specs.Packing.{Packs};
+ghost use Rattle.sets.specs.Packing.{pack};
 
 /// The bytes of a bitvector obey their law, and no others do. There is nothing to run: the contract is the theorem.
 pub fn packing_holds()

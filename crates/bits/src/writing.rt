@@ -1,8 +1,7 @@
 // Writing bitvectors to the front of a memory.
 ghost use Rattle.std.specs.Prelude.{◌≡◌, ℕ, ◌*◌, ◌≤◌, Bool, false, ◌||◌, List, length, ◌==◌};
 ghost use Rattle.sets.specs.Lists.{over};
-ghost use Rattle.bits.specs.Bits.{bytes_for};
-ghost use Rattle.bits.specs.Packing.{pack};
+ghost use Rattle.sets.specs.Packing.{bytes_for, pack};
 
 /// Writes the bitvector of `n` bits of which none is 1.
 pub fn clear(bytes: &mut [u8], n: u32)

@@ -6,7 +6,8 @@ use Rattle.sets.specs.Made.{made_length}
 use Rattle.sets.specs.Sets.{is_member, rank_of}
 use Rattle.sets.proofs.Lawful.{select_ranks}
 use Rattle.bits.specs.Bits.{bit_at}
-use Rattle.bits.specs.Packing.{pack, Bytes}
+use Rattle.bits.specs.Packing.{Bytes}
+use Rattle.sets.specs.Packing.{pack}
 use Rattle.bits.proofs.Packing.{pack_same, pack_back}
 use Rattle.pioneer.specs.Decoding.{Tells}
 use Rattle.pioneer.specs.Filling.{count_of, begins, ends, starts_part, sums_part}

@@ -3,7 +3,7 @@ use Rattle.std.proofs.Common.{◌≡◌, ℕ, ◌+◌, ◌-◌, ◌≤◌, Bool,
 use Rattle.sets.specs.declared.Sort.TheVariants.{Members}
 use Rattle.sets.specs.Lists.{over}
 use Rattle.sets.specs.Sets.{is_member, rank_of}
-use Rattle.bits.specs.Packing.{pack}
+use Rattle.sets.specs.Packing.{pack}
 use Rattle.bits.specs.Rows.{first_bits}
 use Rattle.bits.proofs.Rows.{row_put, row_kept, row_none, row_all}
 use Rattle.pioneer.specs.Filling.{count_of, ends, sums_part}

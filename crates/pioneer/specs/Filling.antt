@@ -5,7 +5,7 @@ use Rattle.faults.specs.declared.fault.Form as forms
 use Rattle.filling.specs.Layouts.{Layout}
 use Rattle.sets.specs.declared.Sort.TheVariants.{Members}
 use Rattle.sets.specs.Sets.{is_member, rank_of, select_of}
-use Rattle.bits.specs.Packing.{pack}
+use Rattle.sets.specs.Packing.{pack}
 use Rattle.pioneer.specs.declared.told.PioneerTold.{PioneerTold}
 use Rattle.pioneer.specs.Opening.{opening}
 use Rattle.pioneer.specs.Runs.{set_of}

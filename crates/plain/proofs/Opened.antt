@@ -11,7 +11,8 @@ use Rattle.sets.specs.Sets.{is_member, LastBay, Sized}
 use Rattle.sets.proofs.Made.{made_again, made_is}
 use Rattle.bits.specs.Bits.{bit_at}
 use Rattle.bits.specs.Checks.{Whole, Clear, CheckedIs, bits_check}
-use Rattle.bits.specs.Packing.{pack, Bytes}
+use Rattle.bits.specs.Packing.{Bytes}
+use Rattle.sets.specs.Packing.{pack}
 use Rattle.bits.proofs.Checked.{bits_law}
 use Rattle.bits.proofs.Packing.{packs, pack_same, pack_back}
 use Rattle.plain.specs.Decoding.{set_of}

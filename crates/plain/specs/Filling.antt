@@ -3,7 +3,7 @@ use Rattle.std.specs.Prelude.{ℕ, Bool, List, [], ◌∷◌, length, Ok, None, 
 use Rattle.faults.specs.declared.fault.Form as forms
 use Rattle.filling.specs.Layouts.{Layout}
 use Rattle.sets.specs.Sets.{is_member}
-use Rattle.bits.specs.Packing.{pack}
+use Rattle.sets.specs.Packing.{pack}
 use Rattle.plain.specs.declared.told.PlainTold.{PlainTold}
 use Rattle.plain.specs.Decoding.{set_of}
 use Rattle.plain.specs.Opening.{opening}

@@ -9,3 +9,4 @@ pub mod Same
 pub mod Only
 pub mod Sharing
 pub mod Made
+pub mod Packing

@@ -3,4 +3,5 @@ pub mod Search
 pub mod Lists
 pub mod Sets
 pub mod Made
+pub mod Packing
 pub mod Laws

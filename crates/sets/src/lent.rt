@@ -21,6 +21,10 @@ impl<'a, S: Walking> Walking for &'a S {
     fn previous(&self, sort: Sort, i: u32) -> Option<u32> {
         (**self).previous(sort, i)
     }
+
+    fn bits(&self, before: u32, out: &mut [u8]) {
+        (**self).bits(before, out)
+    }
 }
 
 impl<'a, S: Counting> Counting for &'a S {

@@ -1,15 +1,18 @@
 // What a set of parking bays is, and the two interfaces by which one is asked. Beside them, the halving of a range by a test.
 #![tactic(auto)]
 
-ghost use Rattle.std.specs.Prelude.{◌≡◌, Bool, List, length};
+ghost use Rattle.std.specs.Prelude.{◌≡◌, ◌*◌, Bool, List, length};
 ghost use Rattle.sets.specs.Laws.{SortsPart, NextSmallest, PreviousLargest, RankCounts, SelectRanks, LawsDecide, SetsByMembers};
+ghost use Rattle.sets.specs.Packing.{pack, member_after};
 ghost use Rattle.sets.specs.Sets.{is_member, next_of, previous_of, rank_of, select_of, Sized};
 
 mod halving;
 mod lent;
+mod packed;
 mod shares;
 
 pub use halving::partition_point;
+use packed::byte_of;
 
 /// The bays of a garage that are in a set, or those that are not.
 #[derive(Clone, Copy, PartialEq, Eq, Debug)]
@@ -38,6 +41,17 @@ pub trait Walking {
     /// The largest bay of the sort at or before `i`; beyond the last bay is read as the last.
     fn previous(&self, sort: Sort, i: u32) -> Option<u32>
         ensures { result ≡ previous_of (meant self.now) sort i };
+
+    /// Writes a bit for each bay after the first `before` ones, in order, until the memory is full: 1 exactly for a member.
+    fn bits(&self, before: u32, out: &mut [u8])
+        ensures { out.new ≡ pack (8 * length out.old) (member_after (meant self.now) before) }
+    {
+        let mut passed = before;
+        for byte in out.iter_mut() {
+            *byte = byte_of(|j| self.holds(passed.saturating_add(j)));
+            passed = passed.saturating_add(8);
+        }
+    }
 
     // Each implementation proves: the last bay is from 1 to 65,535.
     ghost sized: { (x : Self) → Sized (meant x) };

@@ -1,7 +1,7 @@
 -- What is told of a set, and when its block size was taken.
 use Rattle.std.proofs.Common.{◌≡◌, ℕ, ◌*◌, List, Bool, length, Ok, sym, ap, ◌∙◌}
-use Rattle.bits.specs.Bits.{bytes_for}
-use Rattle.bits.proofs.Packing.{pack_length}
+use Rattle.sets.specs.Packing.{bytes_for}
+use Rattle.sets.proofs.Packing.{pack_length}
 use Rattle.faults.specs.Checks.{located}
 use Rattle.faults.specs.declared.fault.Flaw.TheVariants.{BlockSize as WrongSize}
 use Rattle.faults.specs.declared.fault.Form.TheVariants.{Zombit}

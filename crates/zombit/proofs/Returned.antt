@@ -5,7 +5,8 @@ use Rattle.faults.specs.declared.fault.Flaw.TheVariants.{Numbers, BlockSize as W
 use Rattle.faults.proofs.Steps.{range_law, passed}
 use Rattle.sets.specs.Made.{made_length}
 use Rattle.sets.specs.Sets.{Sized, LastBay}
-use Rattle.bits.specs.Bits.{bit_at, bytes_for}
+use Rattle.bits.specs.Bits.{bit_at}
+use Rattle.sets.specs.Packing.{bytes_for}
 use Rattle.bits.specs.Checks.{Whole, Clear, length_check, spare_check}
 use Rattle.bits.proofs.Checked.{length_law, spare_law}
 use Rattle.bits.specs.Packing.{Bytes}

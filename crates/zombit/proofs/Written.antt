@@ -3,8 +3,9 @@ use Rattle.std.proofs.Common.{◌≡◌, ℕ, ◌-◌, ◌*◌, ◌/◌, ◌%◌
 use Rattle.std.proofs.lemmas.List.{get_or_append_left}
 use Rattle.sets.specs.Lists.{over}
 use Rattle.bits.specs.Bits.{bit_at}
-use Rattle.bits.specs.Packing.{pack}
-use Rattle.bits.proofs.Packing.{pack_length, packs}
+use Rattle.sets.specs.Packing.{pack}
+use Rattle.bits.proofs.Packing.{packs}
+use Rattle.sets.proofs.Packing.{pack_length}
 use Rattle.bits.specs.Rows.{TellsRow}
 
 bit_front : (front rest : List ℕ) (i : ℕ) → 1 ≤ i → i ≤ 8 * length front → bit_at (front ++ rest) i ≡ bit_at front i

@@ -4,7 +4,7 @@ use Rattle.faults.specs.Checks.{located}
 use Rattle.faults.specs.declared.fault.Form as forms
 use Rattle.sets.specs.Search.{kth_to}
 use Rattle.sets.specs.Sets.{is_member}
-use Rattle.bits.specs.Packing.{pack}
+use Rattle.sets.specs.Packing.{pack}
 use Rattle.filling.specs.Layouts.{Layout}
 use Rattle.zombit.specs.Blocks.{blocks_of, bits_before, set_of}
 use Rattle.zombit.specs.Opening.{size_check, some_in, opening}

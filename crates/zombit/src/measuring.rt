@@ -1,6 +1,6 @@
 // What a set takes in the zombit form, measured.
 ghost use Rattle.std.specs.Prelude.{◌≡◌, ◌≤◌, length};
-ghost use Rattle.bits.specs.Bits.{bytes_for};
+ghost use Rattle.sets.specs.Packing.{bytes_for};
 ghost use Rattle.zombit.specs.Blocks.{blocks_of, mixed_before};
 ghost use Rattle.zombit.specs.Filling.{uniform_bit};
 ghost use Rattle.zombit.specs.Measures.{telling, TellingIs, measuring, in_parts, MeasuringIs};

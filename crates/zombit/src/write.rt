@@ -1,8 +1,7 @@
 // Writing the rows of a set to the fronts of three memories that have room for them.
 ghost use Rattle.std.specs.Prelude.{◌≡◌, ℕ, ◌+◌, ◌*◌, ◌<◌, ◌≤◌, Bool, List, length};
 ghost use Rattle.sets.specs.Lists.{over};
-ghost use Rattle.bits.specs.Bits.{bytes_for};
-ghost use Rattle.bits.specs.Packing.{pack};
+ghost use Rattle.sets.specs.Packing.{bytes_for, pack};
 ghost use Rattle.bits.specs.Rows.{first_bits, TellsRow};
 ghost use Rattle.zombit.specs.Blocks.{blocks_of};
 ghost use Rattle.zombit.specs.Filling.{uniform_bit, uniform_of, marked_of, mixed_of};

@@ -1,7 +1,7 @@
 -- What is left to show of `worked_cases`.
 use Rattle.std.proofs.Common.{refl}
 use Rattle.bits.specs.Bits.{bit_at}
-use Rattle.bits.specs.Packing.{value_of, pack}
+use Rattle.sets.specs.Packing.{value_of, pack}
 use Rattle.sets.specs.Search.{first_from, last_to, count_to, kth_to}
 use Rattle.sets.specs.Sets.{is, next_of, previous_of, rank_of, select_of}
 use Rattle.sets.specs.Made.{set_by}

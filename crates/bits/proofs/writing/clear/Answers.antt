@@ -1,6 +1,6 @@
 -- What is left to show of `clear`.
 use Rattle.std.proofs.Common.{◌≡◌, arith}
-use Rattle.bits.specs.Bits.{bytes_for}
+use Rattle.sets.specs.Packing.{bytes_for}
 use Rattle.bits.proofs.Fronts.{over_none}
 use Rattle.bits.proofs.writing.clear.Goals as goal
 

@@ -1,7 +1,7 @@
 -- What the loop of `write` keeps.
 use Rattle.std.proofs.Common.{◌≡◌, ℕ, ◌-◌, ◌≤◌, Bool}
 use Rattle.sets.specs.Lists.{over}
-use Rattle.bits.specs.Packing.{pack}
+use Rattle.sets.specs.Packing.{pack}
 use Rattle.bits.specs.Rows.{first_bits}
 use Rattle.bits.proofs.writing.write.Given as goal
 

@@ -1,6 +1,6 @@
 -- What is left to show of `write_starts`.
 use Rattle.std.proofs.Common.{length, arith}
-use Rattle.bits.proofs.Packing.{pack_length}
+use Rattle.sets.proofs.Packing.{pack_length}
 use Rattle.pioneer.specs.Filling.{begins}
 use Rattle.pioneer.proofs.write.write_starts.Goals as goal
 

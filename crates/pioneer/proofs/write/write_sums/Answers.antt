@@ -1,7 +1,7 @@
 -- What is left to show of `write_sums`.
 use Rattle.std.proofs.Common.{◌≡◌, ◌-◌, ◌≤◌, List, Bool, ℕ, length, sym, ◌∙◌, arith}
-use Rattle.bits.specs.Bits.{bytes_for}
-use Rattle.bits.proofs.Packing.{pack_length}
+use Rattle.sets.specs.Packing.{bytes_for}
+use Rattle.sets.proofs.Packing.{pack_length}
 use Rattle.pioneer.specs.Filling.{count_of, ends, sums_part}
 use Rattle.pioneer.proofs.Members.{rank_low}
 use Rattle.pioneer.proofs.Writing.{same_written, begun_written, number_within, last_written, run_written, gap_written, end_written}

@@ -1,8 +1,7 @@
 -- What the loop of `write_block` keeps.
 use Rattle.std.proofs.Common.{◌≡◌, ℕ, ◌+◌, ◌-◌, ◌≤◌, Bool, List, length}
 use Rattle.sets.specs.Lists.{over}
-use Rattle.bits.specs.Bits.{bytes_for}
-use Rattle.bits.specs.Packing.{pack}
+use Rattle.sets.specs.Packing.{bytes_for, pack}
 use Rattle.bits.specs.Rows.{first_bits}
 use Rattle.zombit.specs.Writing.{TellsBlock}
 use Rattle.zombit.proofs.write.write_block.Given as goal

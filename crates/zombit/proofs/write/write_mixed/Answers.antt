@@ -1,8 +1,8 @@
 -- What is left to show of `write_mixed`.
 use Rattle.std.proofs.Common.{◌≡◌, ℕ, suc, ◌+◌, ◌*◌, ◌<◌, ◌≤◌, Bool, true, false, not, List, length, sym, ap, ◌∙◌, zero-mul, add-one, arith}
-use Rattle.bits.specs.Bits.{bit_at, bytes_for}
-use Rattle.bits.specs.Packing.{pack}
-use Rattle.bits.proofs.Packing.{pack_length}
+use Rattle.bits.specs.Bits.{bit_at}
+use Rattle.sets.specs.Packing.{bytes_for, pack}
+use Rattle.sets.proofs.Packing.{pack_length}
 use Rattle.sets.specs.Lists.{over}
 use Rattle.sets.proofs.Tests.{count_none}
 use Rattle.zombit.specs.Blocks.{blocks_of, bits_before}

@@ -1,7 +1,7 @@
 -- What the loop of `write_mixed` keeps.
 use Rattle.std.proofs.Common.{◌≡◌}
 use Rattle.sets.specs.Lists.{over}
-use Rattle.bits.specs.Packing.{pack}
+use Rattle.sets.specs.Packing.{pack}
 use Rattle.zombit.specs.Blocks.{bits_before}
 use Rattle.zombit.specs.Filling.{uniform_bit, mixed_length, mixed_bit}
 use Rattle.bits.specs.Rows.{first_bits}

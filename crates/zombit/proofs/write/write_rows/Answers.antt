@@ -1,8 +1,7 @@
 -- What is left to show of `write_rows`.
 use Rattle.std.proofs.Common.{◌≡◌, ℕ, ◌*◌, ◌≤◌, Bool, List, length, sym, ap, ◌∙◌, subst, arith, rules}
-use Rattle.bits.specs.Bits.{bytes_for}
-use Rattle.bits.specs.Packing.{pack}
-use Rattle.bits.proofs.Packing.{pack_length}
+use Rattle.sets.specs.Packing.{bytes_for, pack}
+use Rattle.sets.proofs.Packing.{pack_length}
 use Rattle.sets.specs.Lists.{over}
 use Rattle.zombit.specs.Blocks.{blocks_of}
 use Rattle.zombit.specs.Filling.{uniform_bit, marked_bit}

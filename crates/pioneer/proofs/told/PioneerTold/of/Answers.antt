@@ -1,6 +1,6 @@
 -- What is left to show of `PioneerTold::of`.
 use Rattle.std.proofs.Common.{◌≡◌, length, arith}
-use Rattle.bits.proofs.Packing.{pack_length}
+use Rattle.sets.proofs.Packing.{pack_length}
 use Rattle.pioneer.specs.Filling.{begins, ends, count_of, starts_part, sums_part}
 use Rattle.pioneer.proofs.told.PioneerTold.of.Goals as goal
 

@@ -1,7 +1,7 @@
 -- What is left to show of `PlainSlip::fill`.
 use Rattle.std.proofs.Common.{◌≤◌, length, ap, arith, rules}
 use Rattle.sets.specs.Sets.{is_member}
-use Rattle.bits.proofs.Packing.{pack_length}
+use Rattle.sets.proofs.Packing.{pack_length}
 use Rattle.plain.specs.declared.told.PlainTold.{PlainTold}
 use Rattle.plain.proofs.slip.PlainSlip.fill.Goals as goal
 

@@ -1,7 +1,7 @@
 -- What is left to show of `PlainTold::of`.
 use Rattle.std.proofs.Common.{◌≡◌, length, arith}
 use Rattle.sets.specs.Sets.{is_member}
-use Rattle.bits.proofs.Packing.{pack_length}
+use Rattle.sets.proofs.Packing.{pack_length}
 use Rattle.plain.specs.Filling.{bits_of}
 use Rattle.plain.proofs.told.PlainTold.of.Goals as goal
 
