@@ -20,6 +20,9 @@ bit_past bs i l =
     let z : get_or bs ((i - 1) / 8) 0 ≡ 0 = get_or-eq_default bs 0 (omega arith) in
     miss _ (ap (λ (y : ℕ). y / 2 ^ ((i - 1) % 8) % 2) z ∙ high_zero 0 0 _ (omega arith) (omega arith))
 
+pub byte_held : (bs : List ℕ) (j : ℕ) → get_or bs j 0 < 256 → Holds (bit_at bs) (8 * j) 8 (get_or bs j 0)
+byte_held bs j small = record { small = small; place = λ s l. bit_at_lem bs j s l }
+
 none_held : (bs : List ℕ) (p : ℕ) → Holds (bit_at bs) p 0 0
 none_held bs p = record { small = omega arith; place = λ s l. absurd (omega arith) }
 

@@ -7,3 +7,4 @@ pub mod Values
 pub mod Packing
 pub mod Fronts
 pub mod Rows
+pub mod Moved

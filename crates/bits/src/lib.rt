@@ -18,5 +18,5 @@ pub use count::{kth, ones};
 pub use demands::{check_length, check_spare};
 pub use law::packing_holds;
 pub use scan::{next, previous};
-pub use words::get;
+pub use words::{get, row};
 pub use writing::{clear, put, write};
