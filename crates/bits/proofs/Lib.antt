@@ -8,3 +8,5 @@ pub mod Packing
 pub mod Fronts
 pub mod Rows
 pub mod Moved
+pub mod Adding
+pub mod Runs

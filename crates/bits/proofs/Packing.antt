@@ -22,7 +22,7 @@ each_at P (x ∷ xs) zero h l = h.0
 each_at P (x ∷ xs) (suc j) h l = each_at P xs j h.1 (omega arith)
 
 module _ (n : ℕ) (f : ℕ → Bool) where
-  pack_bit : (i : ℕ) → 1 ≤ i → i ≤ 8 * bytes_for n → bit_at (pack n f) i ≡ bit n f i
+  pub pack_bit : (i : ℕ) → 1 ≤ i → i ≤ 8 * bytes_for n → bit_at (pack n f) i ≡ bit n f i
   pack_bit i one within =
       let j = (i - 1) / 8 in
       let s = (i - 1) % 8 in

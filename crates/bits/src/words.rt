@@ -61,15 +61,23 @@ pub(crate) fn word(bytes: &[u8], sort: Sort, j: usize) -> u64
     }
 }
 
+// The 64 bits after the first `p`, the first of them as the lowest; those past the last byte are 0.
+pub(crate) fn after(bytes: &[u8], p: usize) -> u64
+    requires within { p ≤ 8 * length bytes.now }
+    ensures { Holds (bit_at bytes.now) p 64 result }
+{
+    let j = p / 8;
+    let low = word(bytes, Sort::Members, j) >> (p % 8);
+    match bytes.get(j + 8) {
+        Some(ninth) => low | (u64::from(*ninth) << 1 << (63 - p % 8)),
+        None => low,
+    }
+}
+
 /// The 64 bits after the first `before`, the first of them as the lowest; those past the last byte are 0.
 pub fn row(bytes: &[u8], before: u32) -> u64
     requires within { before ≤ 8 * length bytes.now }
     ensures { Holds (bit_at bytes.now) before 64 result }
 {
-    let j = (before / 8) as usize;
-    let low = word(bytes, Sort::Members, j) >> (before % 8);
-    match bytes.get(j + 8) {
-        Some(ninth) => low | (u64::from(*ninth) << 1 << (63 - before % 8)),
-        None => low,
-    }
+    after(bytes, before as usize)
 }
