@@ -38,6 +38,25 @@ fn count<S: Counting>(rt: &impl Abort, set: &S, sort: Sort, bays: &[u32]) {
     assert_eq!(rt; set.select(sort, u32::MAX), None);
 }
 
+// The bits after some bays, in memories of some lengths that held ones before.
+fn pack<S: Counting>(rt: &impl Abort, set: &S, row: &[bool]) {
+    let last = set.last();
+    let ends = [last.saturating_sub(1), last, last.saturating_add(1)];
+    let passed = [0, 1, 2, 7, 8, 9, 63, 64, 65, 65534, 65535, 65536, u32::MAX];
+    for before in passed.into_iter().chain(ends) {
+        for length in [0, 1, 9, 42] {
+            let mut memory = [255u8; 42];
+            set.bits(before, &mut memory[..length]);
+            for place in 0..8 * length {
+                let member = row.get(before as usize + place) == Some(&true);
+                let bit = (memory[place / 8] >> (place % 8)) % 2 == 1;
+                assert_eq!(rt; bit, member, "{before} {place}");
+            }
+            assert!(rt; memory[length..].iter().all(|byte| *byte == 255));
+        }
+    }
+}
+
 // Every question of a set, of which a row has the members.
 pub(crate) fn questions<S: Counting>(
     rt: &(impl Abort + AllocGlobal),
@@ -50,6 +69,7 @@ pub(crate) fn questions<S: Counting>(
         walk(rt, set, row, sort, &bays);
         count(rt, set, sort, &bays);
     }
+    pack(rt, set, row);
     Ok(())
 }
 
