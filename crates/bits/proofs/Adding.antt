@@ -1,5 +1,5 @@
 -- Ones added to the bits of a memory: byte by byte, and what a bitvector at its front is then.
-use Rattle.std.proofs.Common.{◌≡◌, ℕ, suc, ◌+◌, ◌-◌, ◌*◌, ◌/◌, ◌%◌, ◌^◌, ◌<◌, ◌≤◌, max, Bool, false, ◌&&◌, ◌||◌, eqb, leb, ltb, List, length, get_or, set, drop, length-append, length-drop, bit_or, sym, ap, ◌∙◌, ⊎_elim, arith, mod-lt}
+use Rattle.std.proofs.Common.{◌≡◌, ℕ, ◌+◌, ◌-◌, ◌*◌, ◌/◌, ◌%◌, ◌^◌, ◌<◌, ◌≤◌, max, Bool, false, ◌&&◌, ◌||◌, eqb, leb, ltb, List, length, get_or, set, drop, length-append, length-drop, bit_or, sym, ap, ◌∙◌, ⊎_elim, arith, mod-lt}
 use Rattle.std.proofs.lemmas.Bool.{cases_lt, cases_eq, le-leb, lt-leb, eq-eqb, ne_eqb, lt-ltb, le-ltb, and_from, and_left, and_right, or_left}
 use Rattle.std.proofs.lemmas.Bool.Decides.{nat_tests}
 use Rattle.std.proofs.lemmas.List.{ext_get_or, get_or-set_same, get_or-set_other, get_or_append_left, get_or-append_right, get_or-drop}
@@ -9,7 +9,7 @@ use Rattle.sets.specs.Packing.{bytes_for, pack}
 use Rattle.sets.proofs.Packing.{bit, pack_length, pack_byte}
 use Rattle.bits.specs.Bits.{bit_at}
 use Rattle.bits.specs.Words.{digit, Adds, in_byte, in_bytes}
-use Rattle.bits.proofs.Bytes.{bit_at_lem, byte_held}
+use Rattle.bits.proofs.Bytes.{byte_held, bit_as_digit, same_byte}
 use Rattle.bits.proofs.Values.{value_only, held_same}
 use Rattle.bits.proofs.Packing.{pack_bit}
 
@@ -20,16 +20,6 @@ or_digit x y s = at (x / 2 ^ s % 2) (y / 2 ^ s % 2) (mod-lt (x / 2 ^ s) (omega a
   where
     at : (a b : ℕ) → a < 2 → b < 2 → bit_or x y / 2 ^ s % 2 ≡ max a b → digit (bit_or x y) s ≡ (eqb b 1 || eqb a 1)
     at a b l h e = ap (λ d. eqb d 1) e ∙ grind (arith, nat_tests)
-
--- ---- bit i as a digit of its byte
-
-pub bit_as_digit : (bs : List ℕ) (i : ℕ) → 1 ≤ i → bit_at bs i ≡ digit (get_or bs ((i - 1) / 8) 0) ((i - 1) % 8)
-bit_as_digit bs i one =
-    let same : i ≡ suc (8 * ((i - 1) / 8) + (i - 1) % 8) = omega arith in
-    ap (bit_at bs) same ∙ bit_at_lem bs ((i - 1) / 8) ((i - 1) % 8) (mod-lt (i - 1) (omega arith))
-
-pub same_byte : (bs cs : List ℕ) (i : ℕ) → 1 ≤ i → get_or bs ((i - 1) / 8) 0 ≡ get_or cs ((i - 1) / 8) 0 → bit_at bs i ≡ bit_at cs i
-same_byte bs cs i one e = bit_as_digit bs i one ∙ ap (λ x. digit x ((i - 1) % 8)) e ∙ sym (bit_as_digit cs i one)
 
 -- ---- one byte changed
 

@@ -1,5 +1,5 @@
 -- The numbers that hold the bits of some bytes.
-use Rattle.std.proofs.Common.{◌≡◌, ℕ, zero, suc, ◌+◌, ◌-◌, ◌*◌, ◌/◌, ◌%◌, ◌^◌, ◌<◌, ◌≤◌, false, eqb, List, length, get_or, sym, refl, ap, ◌∙◌, subst, ⊎_elim, add-zero, arith, pow-add}
+use Rattle.std.proofs.Common.{◌≡◌, ℕ, zero, suc, ◌+◌, ◌-◌, ◌*◌, ◌/◌, ◌%◌, ◌^◌, ◌<◌, ◌≤◌, false, eqb, List, length, get_or, sym, refl, ap, ◌∙◌, subst, ⊎_elim, mod-lt, add-zero, arith, pow-add}
 use lib.ListN.{get_or-eq_default}
 use Rattle.std.proofs.lemmas.Bool.{cases_lt}
 use Rattle.bits.specs.Bits.{bit_at}
@@ -13,6 +13,14 @@ bit_at_lem bs j s l =
     let d : (suc (8 * j + s) - 1) / 8 ≡ j = omega arith in
     let m : (suc (8 * j + s) - 1) % 8 ≡ s = omega arith in
     rw (d, m)
+
+pub bit_as_digit : (bs : List ℕ) (i : ℕ) → 1 ≤ i → bit_at bs i ≡ digit (get_or bs ((i - 1) / 8) 0) ((i - 1) % 8)
+bit_as_digit bs i one =
+    let same : i ≡ suc (8 * ((i - 1) / 8) + (i - 1) % 8) = omega arith in
+    ap (bit_at bs) same ∙ bit_at_lem bs ((i - 1) / 8) ((i - 1) % 8) (mod-lt (i - 1) (omega arith))
+
+pub same_byte : (bs cs : List ℕ) (i : ℕ) → 1 ≤ i → get_or bs ((i - 1) / 8) 0 ≡ get_or cs ((i - 1) / 8) 0 → bit_at bs i ≡ bit_at cs i
+same_byte bs cs i one e = bit_as_digit bs i one ∙ ap (λ x. digit x ((i - 1) % 8)) e ∙ sym (bit_as_digit cs i one)
 
 pub bit_past : (bs : List ℕ) (i : ℕ) → 8 * length bs < i → bit_at bs i ≡ false
 unfolding bit_at

@@ -10,3 +10,4 @@ pub mod Rows
 pub mod Moved
 pub mod Adding
 pub mod Runs
+pub mod Changed

@@ -12,7 +12,7 @@ use Rattle.sets.proofs.Packing.{bit, pack_length, pack_byte}
 use Rattle.bits.proofs.Bytes.{bit_at_lem, bit_past}
 use Rattle.bits.proofs.Values.{value_holds, value_only, held_same}
 
-each_from : (P : ℕ → Type 0) (xs : List ℕ) → ((j : ℕ) → j < length xs → P (get_or xs j 0)) → Each P xs
+pub each_from : (P : ℕ → Type 0) (xs : List ℕ) → ((j : ℕ) → j < length xs → P (get_or xs j 0)) → Each P xs
 each_from P [] h = tt
 each_from P (x ∷ xs) h = (h 0 (omega arith), each_from P xs (λ j l. h (suc j) (omega arith)))
 

@@ -1,8 +1,9 @@
 // Bitvectors in bytes. A bitvector is a set of numbers, of which its ones are the members: one bit, the next and the previous bit
-// of a sort, how many ones, the k-th bit of a sort, the checks of the bytes, and the writing of bits to the front of a memory. These
-// are leaves for the forms of an index: they ask for bit numbers within the bytes, writing for room, and `check`, `check_spare` and
-// `write` for at most 131,072 bits. They take the bytes, and not a struct of bytes and their number of bits: an index holds its
-// numbers and its parts and nothing else, and the number of bits of a row follows from them.
+// of a sort, how many ones, the k-th bit of a sort, 64 bits from any on, the checks of the bytes, the writing of bits to the front of
+// a memory, and the change of a whole memory of bits. These are leaves for the forms of an index: they ask for bit numbers within
+// the bytes, writing for room, and `check`, `check_spare` and `write` for at most 131,072 bits. They take the bytes, and not a struct
+// of bytes and their number of bits: an index holds its numbers and its parts and nothing else, and the number of bits of a row
+// follows from them.
 #![tactic(auto)]
 
 mod checks;
@@ -11,6 +12,7 @@ mod demands;
 mod law;
 mod marking;
 mod scan;
+mod whole;
 mod words;
 mod writing;
 
@@ -20,5 +22,6 @@ pub use demands::{check_length, check_spare};
 pub use law::packing_holds;
 pub use marking::mark;
 pub use scan::{next, previous};
+pub use whole::{cut, turn};
 pub use words::{get, row};
 pub use writing::{clear, put, write};
