@@ -10,4 +10,5 @@ pub mod Rows
 pub mod Moved
 pub mod Adding
 pub mod Runs
+pub mod Laid
 pub mod Changed

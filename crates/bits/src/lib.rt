@@ -20,7 +20,7 @@ pub use checks::check;
 pub use count::{kth, ones};
 pub use demands::{check_length, check_spare};
 pub use law::packing_holds;
-pub use marking::mark;
+pub use marking::{copy, mark};
 pub use scan::{next, previous};
 pub use whole::{cut, turn};
 pub use words::{get, row};
