@@ -1,2 +1,5 @@
 -- The lemmas of this crate.
+pub mod Copied
+pub mod Shifted
+pub mod Packed
 pub mod Opened

@@ -3,6 +3,7 @@ ghost use Rattle.bits.specs.Bits.{bit_at};
 ghost use Rattle.plain.specs.Decoding.{set_of};
 ghost use Rattle.sets.specs.Made.{made_sized};
 
+use super::behind::{copy_bits, copy_bytes};
 use super::index::Plain;
 use sets::{Counting, Sort, Walking};
 
@@ -28,6 +29,14 @@ impl<'a> Walking for Plain<'a> {
 
     fn previous(&self, sort: Sort, i: u32) -> Option<u32> {
         bits::previous(self.bits, sort, i.min(self.last))
+    }
+
+    fn bits(&self, before: u32, out: &mut [u8]) {
+        if before % 8 == 0 {
+            copy_bytes(self.bits, (before / 8) as usize, out);
+        } else {
+            copy_bits(self.bits, before, out);
+        }
     }
 }
 

@@ -6,7 +6,6 @@ ghost use Rattle.plain.specs.Filling.{bits_of, parts_of};
 
 use super::slip::PlainSlip;
 use super::told::PlainTold;
-use bits::write;
 use faults::{Fault, Form, Located};
 use filling::check_room;
 use sets::Walking;
@@ -30,7 +29,7 @@ impl<S: Walking> PlainSlip<S> {
         let PlainSlip { set, told } = self;
         let room = check_room(told.bits, bits.len()).at(Form::Plain, 1);
         if room.is_ok() {
-            write(bits, told.last, |i| set.holds(i));
+            set.bits(0, &mut bits[..told.bits]);
         }
         (set, room)
     }

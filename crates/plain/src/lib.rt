@@ -6,6 +6,7 @@ ghost use Rattle.plain.specs.Filling.{plain_layout};
 ghost use Rattle.plain.specs.Refilling.{PartsTell, RefillsReturn};
 
 mod asks;
+mod behind;
 mod fill;
 mod index;
 mod measuring;
