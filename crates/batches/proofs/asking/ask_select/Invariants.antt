@@ -1,0 +1,8 @@
+-- What the loop of `ask_select` keeps.
+use Rattle.batches.specs.Questions.{answer_of}
+use Rattle.batches.specs.declared.question.Question.TheVariants.{Select}
+use Rattle.batches.proofs.Answering.{Answering}
+use Rattle.batches.proofs.asking.ask_select.Given as goal
+
+abbrev pub invariant-loop-k : goal.invariant-loop-k
+invariant-loop-k g l = Answering (answer_of (g.S.Walking.meant l.set) Select l.sort) l.places l.initial.answers l.k l.answers
