@@ -1,6 +1,5 @@
 -- The binary digits of a number: the ones among them, the lowest one, its parts and its complement.
-use Rattle.std.proofs.Common.{◌≡◌, ℕ, zero, suc, ◌+◌, ◌-◌, ◌*◌, ◌/◌, ◌%◌, ◌^◌, ◌<◌, ◌≤◌, ◌⊎◌, inl, inr, ⊎_elim, sym, refl, ap, ◌∙◌, lt_of_lt_of_le, le_of_suc-le-suc, not-suc-le-zero, mod-lt, mod-eq_of_lt, add_comm, pow-suc, arith, pow_pos, pow_mono, shr-shr}
-use Rattle.std.proofs.lemmas.Bool.{cases_lt}
+use Rattle.std.proofs.Common.{◌≡◌, ℕ, zero, suc, ◌+◌, ◌-◌, ◌*◌, ◌/◌, ◌%◌, ◌^◌, ◌<◌, ◌≤◌, sym, refl, ap, ◌∙◌, lt_of_lt_of_le, le_of_suc-le-suc, not-suc-le-zero, mod-lt, add_comm, pow-suc, arith, pow_pos, pow_mono, shr-shr}
 use native.Mathlib.Nat.{div-eq_of_lt}
 use lib.Arith.{digits_div}
 use lib.Bits.{bit_and, and_mask}
@@ -44,35 +43,6 @@ front_mask x m q n e =
     let mask : (2 ^ m - 1) / 2 ^ q ≡ 2 ^ n - 1 =
     ap (λ (y : ℕ). (2 ^ y - 1) / 2 ^ q) (sym e) ∙ ap (λ (y : ℕ). y / 2 ^ q) (ones_split n q) ∙ high (2 ^ n - 1) q (ones_lt q) in
     ap (bit_and x) mask ∙ and_mask x n
-
--- ---- the k-th one
-
--- at place s, where fewer than k ones lie before it and k up to it, as the numbers with s and s + 1 digits say
-pub kth_digit : (w k s : ℕ) → 1 ≤ k → k ≤ ones w → w < 2 ^ 64 → s ≤ 63
-    → (s ≡ 0) ⊎ (ones (bit_and w (1 * 2 ^ (s - 1 + 1) % 2 ^ 64 - 1)) < k) → (s ≡ 63) ⊎ (k ≤ ones (bit_and w (1 * 2 ^ (s + 1) % 2 ^ 64 - 1)))
-    → (w / 2 ^ s % 2 ≡ 1) × (ones (w % 2 ^ s) + 1 ≡ k)
-kth_digit w k s some enough small low before here =
-    let fewer = under_k (cases_lt s 1) in
-    let reached = up_to_k (cases_lt s 63) in
-    let more = ones_more w s in
-    (omega arith, omega arith)
-  where
-    under_k : (s < 1) ⊎ (1 ≤ s) → ones (w % 2 ^ s) < k
-    under_k (inl z) =
-        let first : s ≡ 0 = omega arith in
-        let none : w % 1 ≡ 0 = omega arith in
-        omega (arith, ap (λ (x : ℕ). ones (w % 2 ^ x)) first, ap ones none, ones_of_zero)
-    under_k (inr l) =
-        let same : s - 1 + 1 ≡ s = omega arith in
-        omega (arith, ⊎_elim (λ z. absurd (omega (arith, z))) (λ less. less) before, ap ones (masked w (s - 1 + 1) 64 (omega arith)), ap (λ (x : ℕ). ones (w % 2 ^ x)) same)
-
-    up_to_k : (s < 63) ⊎ (63 ≤ s) → k ≤ ones (w % 2 ^ suc s)
-    up_to_k (inl l) =
-        let same : s + 1 ≡ suc s = omega arith in
-        omega (arith, ⊎_elim (λ z. absurd (omega (arith, z))) (λ most. most) here, ap ones (masked w (s + 1) 64 (omega arith)), ap (λ (x : ℕ). ones (w % 2 ^ x)) same)
-    up_to_k (inr l) =
-        let last : suc s ≡ 64 = omega arith in
-        omega (arith, ap (λ (x : ℕ). ones (w % 2 ^ x)) last, ap ones (mod-eq_of_lt small))
 
 -- ---- a digit of a part, of a sum and of the complement
 

@@ -1,6 +1,8 @@
 -- The lemmas of this crate.
 pub mod Digits
+pub mod Lowest
 pub mod Held
+pub mod Sorts
 pub mod Bytes
 pub mod Checked
 pub mod Values

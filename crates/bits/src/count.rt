@@ -6,7 +6,21 @@ ghost use Rattle.bits.specs.Bits.{bit_at, is_bit};
 
 use super::scan::at_most;
 use super::words::{whole_word, word};
-use sets::{Sort, partition_point};
+use sets::Sort;
+
+// How many of the bits of the words `from` to `to`, counted from 0, are 1, without the last.
+fn ones_in_words(bytes: &[u8], from: u32, to: u32) -> u32
+    requires order { from ≤ to }
+    requires within { 8 * to ≤ length bytes.now }
+    requires small { 64 * to < 4294967296 }
+    ensures { count_to (bit_at bytes.now) (64 * to) ≡ count_to (bit_at bytes.now) (64 * from) + result }
+{
+    let mut n = 0;
+    for w in from..to {
+        n += whole_word(bytes, 8 * w as usize).count_ones();
+    }
+    n
+}
 
 /// How many of the bits 1 to `i` are 1.
 pub fn ones(bytes: &[u8], i: u32) -> u32
@@ -14,15 +28,12 @@ pub fn ones(bytes: &[u8], i: u32) -> u32
     ensures value { result ≡ count_to (bit_at bytes.now) i }
     ensures bound { result ≤ i }
 {
-    let mut n = 0;
-    for w in 0..i / 64 {
-        n += whole_word(bytes, 8 * w as usize).count_ones();
-    }
-    let tail = word(bytes, Sort::Members, 8 * (i / 64) as usize) & ((1u64 << (i % 64)) - 1);
-    n + tail.count_ones()
+    let whole = i / 64;
+    let tail = word(bytes, Sort::Members, 8 * whole as usize) & ((1u64 << (i % 64)) - 1);
+    ones_in_words(bytes, 0, whole) + tail.count_ones()
 }
 
-// The place, from 0, of the `k`-th one of `w`: the first up to and with which there are so many.
+// The place, from 0, of the `k`-th one of `w`: the lowest after the `k` - 1 lowest are gone.
 fn place_in_word(w: u64, k: u32) -> u32
     requires first { 1 ≤ k }
     requires within { k ≤ ones_of w }
@@ -30,7 +41,31 @@ fn place_in_word(w: u64, k: u32) -> u32
     ensures hit { w / 2 ^ result % 2 ≡ 1 }
     ensures kth { ones_of (w % 2 ^ result) + 1 ≡ k }
 {
-    partition_point(0, 63, |s| (w & ((1u64 << (s + 1)) - 1)).count_ones() < k)
+    let mut left = w;
+    for _ in 1..k {
+        left &= left - 1;
+    }
+    left.trailing_zeros()
+}
+
+// Of stretches of 512 bits the one, from 0, with the `k`-th bit of the sort, and which of its bits it is; past the `n`-th where there is none.
+fn stretch_with(bytes: &[u8], sort: Sort, k: u32, n: u32) -> (u32, u32)
+    requires first { 1 ≤ k }
+    requires within { 64 * n ≤ length bytes.now }
+    requires small { 512 * n < 4294967296 }
+    ensures upto { result.0 ≤ n }
+    ensures some { 1 ≤ result.1 }
+    ensures left { count_to (is_bit bytes.now sort) (512 * result.0) + result.1 ≡ k }
+{
+    let mut left = k;
+    for s in 0..n {
+        let here = sort.share(ones_in_words(bytes, 8 * s, 8 * s + 8), 512);
+        if left <= here {
+            return (s, left);
+        }
+        left -= here;
+    }
+    (n, left)
 }
 
 /// The `k`-th bit of the sort from 1 to `last`; none at 0 and beyond their number.
@@ -41,8 +76,8 @@ pub fn kth(bytes: &[u8], sort: Sort, k: u32, last: u32) -> Option<u32>
     if k == 0 {
         return None;
     }
-    let mut left = k;
-    for w in 0..last.div_ceil(64) {
+    let (stretch, mut left) = stretch_with(bytes, sort, k, last / 512);
+    for w in 8 * stretch..last.div_ceil(64) {
         let v = word(bytes, sort, 8 * w as usize);
         let n = v.count_ones();
         if left <= n {

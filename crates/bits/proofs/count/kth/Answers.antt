@@ -1,7 +1,7 @@
 -- What is left to show of `kth`.
 use Rattle.std.proofs.Common.{◌≡◌, ◌+◌, ◌*◌, None, ap, ◌∙◌, inl, inr, arith}
 use Rattle.sets.specs.Search.{count_to}
-use Rattle.sets.proofs.Tests.{count_none, count_mono, kth_by}
+use Rattle.sets.proofs.Tests.{count_mono, kth_by}
 use Rattle.bits.specs.Bits.{is_bit}
 use Rattle.bits.proofs.Held.{count_all, kth_in, up_kth}
 use Rattle.bits.proofs.count.kth.Goals as goal
@@ -10,7 +10,10 @@ pub returns-then-k-eq0 : goal.returns-then-k-eq0
 returns-then-k-eq0 c = kth_by _ _ _ None (inl c.if-k-eq0.true)
 
 pub loop-w-init : goal.loop-w-init
-loop-w-init c = (omega arith, omega (arith, count_none (is_bit c.args.bytes.now c.args.sort)))
+loop-w-init c =
+    let s = c.stretch_with-stretch.result.0 in
+    let at : 8 * (8 * (8 * s)) ≡ 512 * s = omega arith in
+    (omega arith, omega (arith, c.stretch_with-stretch.ensures.left, ap (count_to (is_bit c.args.bytes.now c.args.sort)) at))
 
 pub returns-then-left-n : goal.returns-then-left-n
 returns-then-left-n c =
