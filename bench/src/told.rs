@@ -12,12 +12,13 @@ pub struct Told {
     pub third: usize,
 }
 
-/// A refusal, by its number and the part; 0 and 0 for none.
+/// A refusal, by its number, the part, and which index of the call; all 0 for none.
 #[repr(C)]
 #[derive(Clone, Copy, Default, PartialEq, Eq, Debug)]
 pub struct Fault {
     pub number: u32,
     pub part: u32,
+    pub index: u32,
 }
 
 /// What a round tells when it is closed.

@@ -8,10 +8,15 @@ pub const NUMBERS_SIZE: u32 = 4;
 pub const ROOM: u32 = 5;
 pub const UNLAWFUL: u32 = 6;
 
-/// Refuses by a number where something does not hold.
+/// Refuses the first index of a call by a number where something does not hold.
 #[inline]
 pub fn check(holds: bool, number: u32, part: u32) -> Result<(), Fault> {
-    if holds { Ok(()) } else { Err(Fault { number, part }) }
+    if holds { Ok(()) } else { Err(Fault { number, part, index: 1 }) }
+}
+
+/// The same fault, of the second index of a call.
+pub fn of_second(fault: Fault) -> Fault {
+    Fault { index: 2, ..fault }
 }
 
 /// Checks the last bay.

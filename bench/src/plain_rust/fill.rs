@@ -1,5 +1,5 @@
 // Filling an index of any form into any form, by way of the set as words.
-use super::faults::{NUMBERS_SIZE, ROOM, check};
+use super::faults::{NUMBERS_SIZE, ROOM, check, of_second};
 use super::index::{Index, with_index};
 use super::set::Set;
 use super::words::{WORDS, Words};
@@ -73,10 +73,10 @@ fn write(set: &Decoded, form: Form, bytes: &mut [u8], numbers: &mut [u16]) -> Re
 
 /// What the set of an index takes in a form.
 pub fn measure(stored: Stored, form: Form) -> Result<Told, Fault> {
-    tell(&decode(stored)?, form)
+    tell(&decode(stored)?, form).map_err(of_second)
 }
 
 /// Fills the set of an index in a form to the fronts of two memories.
 pub fn fill(stored: Stored, form: Form, bytes: &mut [u8], numbers: &mut [u16]) -> Result<Told, Fault> {
-    write(&decode(stored)?, form, bytes, numbers)
+    write(&decode(stored)?, form, bytes, numbers).map_err(of_second)
 }

@@ -1,5 +1,6 @@
 // The calls of a round over two sets: a sheet, the nearest free bay, and counts.
 use super::bits::Bits;
+use super::faults::of_second;
 use super::index::{Index, with_index};
 use super::set::Set;
 use super::words::{Row, WORDS, Words, low};
@@ -10,12 +11,9 @@ use crate::told::{Fault, Report, Stored};
 const NO_BAY: u32 = 7;
 const BEYOND: u32 = 9;
 
-/// The side of the class is told by a part of 16 and more.
-pub const CLASS: u32 = 16;
-
 fn open_pair<'a>(f: Stored<'a>, c: Stored<'a>) -> Result<(Index<'a>, Index<'a>), Fault> {
     let free = Index::open(f)?;
-    let class = Index::open(c).map_err(|fault| Fault { part: fault.part + CLASS, ..fault })?;
+    let class = Index::open(c).map_err(of_second)?;
     Ok((free, class))
 }
 
@@ -98,7 +96,7 @@ pub fn sheet(f: Stored, c: Stored, place: u32, out: &mut [u32]) -> Result<Report
     let (free, class) = open_pair(f, c)?;
     let last = free.last().min(class.last());
     if place == 0 || place > last + 1 {
-        return Err(Fault { number: if place == 0 { NO_BAY } else { BEYOND }, part: 0 });
+        return Err(Fault { number: if place == 0 { NO_BAY } else { BEYOND }, ..Fault::default() });
     }
     Ok(match (&free, &class) {
         (Index::Plain(f), Index::Plain(c)) => write_sheet::<Bits, Bits>(f.bits(), c.bits(), place, last, out),
