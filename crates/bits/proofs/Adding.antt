@@ -1,14 +1,14 @@
 -- Ones added to the bits of a memory: byte by byte, and what a bitvector at its front is then.
-use Rattle.std.proofs.Common.{◌≡◌, ℕ, ◌+◌, ◌-◌, ◌*◌, ◌/◌, ◌%◌, ◌^◌, ◌<◌, ◌≤◌, max, Bool, false, ◌&&◌, ◌||◌, eqb, leb, ltb, List, length, get_or, set, drop, length-append, length-drop, bit_or, sym, ap, ◌∙◌, ⊎_elim, arith, mod-lt}
-use Rattle.std.proofs.lemmas.Bool.{cases_lt, cases_eq, le-leb, lt-leb, eq-eqb, ne_eqb, lt-ltb, le-ltb, and_from, and_left, and_right, or_left}
+use Rattle.std.proofs.Common.{◌≡◌, ℕ, ◌+◌, ◌-◌, ◌*◌, ◌/◌, ◌%◌, ◌^◌, ◌<◌, ◌≤◌, max, Bool, false, ◌&&◌, ◌||◌, eqb, leb, ltb, List, length, get_or, drop, length-append, length-drop, bit_or, sym, ap, ◌∙◌, ⊎_elim, arith, mod-lt}
+use Rattle.std.proofs.lemmas.Bool.{cases_lt, le-leb, lt-leb, eq-eqb, lt-ltb, le-ltb, and_from, and_left, and_right, or_left}
 use Rattle.std.proofs.lemmas.Bool.Decides.{nat_tests}
-use Rattle.std.proofs.lemmas.List.{ext_get_or, get_or-set_same, get_or-set_other, get_or_append_left, get_or-append_right, get_or-drop}
+use Rattle.std.proofs.lemmas.List.{ext_get_or, get_or_append_left, get_or-append_right, get_or-drop}
 use Rattle.std.proofs.lemmas.Nat.Bits.{bit_at_or, bit_at_ones}
 use Rattle.sets.specs.Lists.{over}
 use Rattle.sets.specs.Packing.{bytes_for, pack}
 use Rattle.sets.proofs.Packing.{bit, pack_length, pack_byte}
 use Rattle.bits.specs.Bits.{bit_at}
-use Rattle.bits.specs.Words.{digit, Adds, in_byte, in_bytes}
+use Rattle.bits.specs.Words.{digit, Adds, in_bytes}
 use Rattle.bits.proofs.Bytes.{byte_held, bit_as_digit, same_byte}
 use Rattle.bits.proofs.Values.{value_only, held_same}
 use Rattle.bits.proofs.Packing.{pack_bit}
@@ -20,22 +20,6 @@ or_digit x y s = at (x / 2 ^ s % 2) (y / 2 ^ s % 2) (mod-lt (x / 2 ^ s) (omega a
   where
     at : (a b : ℕ) → a < 2 → b < 2 → bit_or x y / 2 ^ s % 2 ≡ max a b → digit (bit_or x y) s ≡ (eqb b 1 || eqb a 1)
     at a b l h e = ap (λ d. eqb d 1) e ∙ grind (arith, nat_tests)
-
--- ---- one byte changed
-
-pub byte_adds : (bs : List ℕ) (k x : ℕ) → k < length bs → Adds (in_byte k x) bs (set bs k (bit_or (get_or bs k 0) x))
-byte_adds bs k x within i one last =
-    let j = (i - 1) / 8 in
-    let s = (i - 1) % 8 in
-    let after = set bs k (bit_or (get_or bs k 0) x) in
-    ⊎_elim
-    (λ same.
-    bit_as_digit after i one ∙ ap (λ y. digit (get_or after y 0) s) same ∙ ap (λ y. digit y s) (get_or-set_same bs k _ 0 within)
-    ∙ or_digit (get_or bs k 0) x s
-    ∙ ap (λ b. digit x s || b) (sym (bit_as_digit bs i one ∙ ap (λ y. digit (get_or bs y 0) s) same))
-    ∙ ap (λ b. (b && digit x s) || bit_at bs i) (sym (eq-eqb j k same)))
-    (λ apart. same_byte after bs i one (get_or-set_other bs k j _ 0 apart) ∙ ap (λ b. (b && digit x s) || bit_at bs i) (sym (ne_eqb j k apart)))
-    (cases_eq j k)
 
 -- ---- bytes filled with ones
 
@@ -52,12 +36,6 @@ filled_adds a b before after front behind ones i one last =
     (λ past. same_byte after before i one (behind j past) ∙ ap (λ c. c || bit_at before i) (sym (and_right (leb a j) _ (le-ltb j b past))))
     (cases_lt j b))
     (cases_lt j a)
-
--- ---- one after the other
-
-module _ (f g h : ℕ → Bool) (a b c : List ℕ) (long : length b ≡ length a) where
-  pub adds_on : Adds f a b → Adds g b c → ((i : ℕ) → 1 ≤ i → (g i || (f i || bit_at a i)) ≡ (h i || bit_at a i)) → Adds h a c
-  adds_on first then same i one last = then i one (omega arith) ∙ ap (λ t. g i || t) (first i one last) ∙ same i one
 
 -- ---- a bitvector at the front
 

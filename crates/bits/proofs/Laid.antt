@@ -74,6 +74,35 @@ moved_word f p n q x i few held =
 pub moved_past : (p n : ℕ) (f : ℕ → Bool) (q i : ℕ) → p + n < i → moved p n f q i ≡ false
 moved_past p n f q i l = and_left _ _ (and_right _ _ (lt-leb i (p + n) l))
 
+-- a whole word of them
+pub moved_whole : (f : ℕ → Bool) (k p q x i : ℕ) → p ≡ 8 * k → Holds f q 64 x → in_word k x i ≡ moved p 64 f q i
+moved_whole f k p q x i at held =
+    let t = i - suc (8 * k) in
+    ⊎_elim
+    (λ front. and_left _ _ (le-ltb (8 * k) i (omega arith)) ∙ sym (and_left _ _ (and_left _ _ (le-ltb p i (omega arith)))))
+    (λ more. ⊎_elim
+    (λ past. and_right _ _ (miss _ (high_zero x 64 t held.small (omega arith))) ∙ sym (and_left _ _ (and_right _ _ (lt-leb i (p + 64) past))))
+    (λ within.
+    let here : suc (q + t) ≡ q + (i - p) = omega arith in
+    ap (λ b. b && digit x t) (lt-ltb (8 * k) i more) ∙ sym (held.place t (omega arith)) ∙ ap f here
+    ∙ sym (ap (λ b. b && f (q + (i - p))) (and_from _ _ (lt-ltb p i (omega arith)) (le-leb i (p + 64) within))))
+    (cases_lt (p + 64) i))
+    (cases_lt i (suc (8 * k)))
+
+-- b bits behind the first a
+pub moved_on : (p a b n : ℕ) (f : ℕ → Bool) (q i : ℕ) (o : Bool) → n ≡ a + b → (moved (p + a) b f (q + a) i || (moved p a f q i || o)) ≡ (moved p n f q i || o)
+moved_on p a b n f q i o all = ⊎_elim
+    (λ first.
+    ap (λ c. c || (moved p a f q i || o)) (and_left _ _ (and_left _ _ (le-ltb (p + a) i (omega arith))))
+    ∙ ap (λ c. ((ltb p i && c) && f (q + (i - p))) || o) (le-leb i (p + a) (omega arith) ∙ sym (le-leb i (p + n) (omega arith))))
+    (λ then.
+    let at : q + a + (i - (p + a)) ≡ q + (i - p) = omega arith in
+    let end : p + a + b ≡ p + n = omega arith in
+    ap (λ c. moved (p + a) b f (q + a) i || (c || o)) (and_left _ _ (and_right _ _ (lt-leb i (p + a) then)))
+    ∙ (λ k. ((ltb (p + a) i && leb i (end k)) && f (at k)) || o)
+    ∙ ap (λ c. ((c && leb i (p + n)) && f (q + (i - p))) || o) (lt-ltb (p + a) i then ∙ sym (lt-ltb p i (omega arith))))
+    (cases_lt i (suc (p + a)))
+
 -- the bytes of a number
 pub byte_of : (w : ℕ) (j : ℕ) → j < 8
     → get_or (w % 256 ∷ w / 256 % 256 ∷ w / 65536 % 256 ∷ w / 16777216 % 256 ∷ w / 4294967296 % 256 ∷ w / 1099511627776 % 256 ∷ w / 281474976710656 % 256 ∷ w / 72057594037927936 % 256 ∷ []) j 0

@@ -15,10 +15,6 @@ pub record Holds (f : ℕ → Bool) (p m x : ℕ) : Type 0 where
 abbrev pub at_most : ℕ → ℕ → Option ℕ
 at_most last i = cond (nat_le i last) (Some i) None
 
--- bit i is one of those of byte k, and there digit of x
-abbrev pub in_byte : ℕ → ℕ → ℕ → Bool
-in_byte k x i = (i - 1) / 8 == k && digit x ((i - 1) % 8)
-
 -- bit i is in one of the bytes from a on, before b
 abbrev pub in_bytes : ℕ → ℕ → ℕ → Bool
 in_bytes a b i = nat_le a ((i - 1) / 8) && nat_lt ((i - 1) / 8) b

@@ -7,9 +7,11 @@
 #![tactic(auto)]
 
 mod checks;
+mod copying;
 mod count;
 mod demands;
 mod law;
+mod laying;
 mod marking;
 mod scan;
 mod whole;
@@ -17,10 +19,11 @@ mod words;
 mod writing;
 
 pub use checks::check;
+pub use copying::copy;
 pub use count::{kth, ones};
 pub use demands::{check_length, check_spare};
 pub use law::packing_holds;
-pub use marking::{copy, mark};
+pub use marking::mark;
 pub use scan::{next, previous};
 pub use whole::{cut, turn};
 pub use words::{get, row};

@@ -1,5 +1,5 @@
 // Single bits, and 64 bits at a time as a number.
-ghost use Rattle.std.specs.Prelude.{◌≡◌, ◌+◌, ◌*◌, ◌<◌, ◌≤◌, length, slice_index};
+ghost use Rattle.std.specs.Prelude.{◌≡◌, ◌+◌, ◌*◌, ◌/◌, ◌<◌, ◌≤◌, length, slice_index};
 ghost use Rattle.bits.specs.Bits.{bit_at, is_bit};
 ghost use Rattle.bits.specs.Words.{Holds};
 
@@ -37,7 +37,7 @@ fn padded(bytes: &[u8]) -> [u8; 8]
 }
 
 // The 64 bits from byte `j` on, where at most 8 bytes are left: the bits past the last byte are 0.
-fn last_word(bytes: &[u8], j: usize) -> u64
+pub(crate) fn last_word(bytes: &[u8], j: usize) -> u64
     requires within { j ≤ length bytes.now }
     requires short { length bytes.now ≤ j + 8 }
     ensures { Holds (bit_at bytes.now) (8 * j) 64 result }
@@ -61,16 +61,25 @@ pub(crate) fn word(bytes: &[u8], sort: Sort, j: usize) -> u64
     }
 }
 
+// The 64 bits after the first `s` of byte `j`, the first of them as the lowest.
+pub(crate) fn across(bytes: &[u8], j: usize, s: u32) -> u64
+    requires short { s < 8 }
+    requires within { j + 9 ≤ length bytes.now }
+    ensures { Holds (bit_at bytes.now) (8 * j + s) 64 result }
+{
+    whole_word(bytes, j) >> s | (u64::from(bytes[j + 8]) << 1 << (63 - s))
+}
+
 // The 64 bits after the first `p`, the first of them as the lowest; those past the last byte are 0.
 pub(crate) fn after(bytes: &[u8], p: usize) -> u64
     requires within { p ≤ 8 * length bytes.now }
     ensures { Holds (bit_at bytes.now) p 64 result }
 {
-    let j = p / 8;
-    let low = word(bytes, Sort::Members, j) >> (p % 8);
-    match bytes.get(j + 8) {
-        Some(ninth) => low | (u64::from(*ninth) << 1 << (63 - p % 8)),
-        None => low,
+    let (j, s) = (p / 8, (p % 8) as u32);
+    if bytes.len() - j > 8 {
+        across(bytes, j, s)
+    } else {
+        last_word(bytes, j) >> s
     }
 }
 

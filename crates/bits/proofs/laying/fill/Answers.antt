@@ -2,7 +2,7 @@
 use Rattle.std.proofs.Common.{rules}
 use Rattle.std.proofs.lemmas.List.{places}
 use Rattle.bits.proofs.Adding.{filled_adds}
-use Rattle.bits.proofs.marking.fill.Goals as goal
+use Rattle.bits.proofs.laying.fill.Goals as goal
 
 pub returns-clause-ones : goal.returns-clause-ones
 returns-clause-ones c =

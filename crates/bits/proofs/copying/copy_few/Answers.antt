@@ -4,7 +4,7 @@ use Rattle.bits.specs.Bits.{bit_at}
 use Rattle.bits.specs.Words.{Holds}
 use Rattle.bits.proofs.Held.{front_held}
 use Rattle.bits.proofs.Laid.{moved_word}
-use Rattle.bits.proofs.marking.copy_few.Goals as goal
+use Rattle.bits.proofs.copying.copy_few.Goals as goal
 
 pub returns-clause-ones : goal.returns-clause-ones
 returns-clause-ones c i one last =
