@@ -43,6 +43,13 @@ impl<'a, S: Walking> Walking for Source<'a, S> {
             Source::Filled(index) => index.previous(sort, i),
         }
     }
+
+    fn bits(&self, before: u32, out: &mut [u8]) {
+        match self {
+            Source::First(set) => set.bits(before, out),
+            Source::Filled(index) => index.bits(before, out),
+        }
+    }
 }
 
 impl<'a, S: Counting> Counting for Source<'a, S> {

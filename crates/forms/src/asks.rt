@@ -44,6 +44,15 @@ impl<'a> Walking for Index<'a> {
             Index::Pioneer(index) => index.previous(sort, i),
         }
     }
+
+    fn bits(&self, before: u32, out: &mut [u8]) {
+        match self {
+            Index::Plain(index) => index.bits(before, out),
+            Index::List(index) => index.bits(before, out),
+            Index::Zombit(index) => index.bits(before, out),
+            Index::Pioneer(index) => index.bits(before, out),
+        }
+    }
 }
 
 impl<'a> Counting for Index<'a> {
