@@ -8,12 +8,15 @@ fn run(program: &str, arguments: &[&str]) {
     assert!(status.is_ok_and(|status| status.success()), "{program} {arguments:?} failed");
 }
 
+// Keeps jumps off the ends of 32 bytes, where an erratum of some processors makes them slow by chance.
+const ALIGNED: &str = "-Wa,-mbranches-within-32B-boundaries";
+
 fn main() {
     let out = env::var("OUT_DIR").expect("cargo sets OUT_DIR");
     let archive = format!("{out}/libshim.a");
     for name in ["sdsl", "roaring"] {
         let (source, object) = (format!("shim/{name}.cpp"), format!("{out}/{name}.o"));
-        run("g++", &["-O2", "-DNDEBUG", "-std=c++17", "-c", &source, "-o", &object]);
+        run("g++", &["-O2", "-DNDEBUG", "-std=c++17", ALIGNED, "-c", &source, "-o", &object]);
         run("ar", &["crs", &archive, &object]);
     }
     let bays = env::var("BAYS_LIB").expect("bench/run sets BAYS_LIB");

@@ -1,4 +1,4 @@
-// Timing: several pieces of work in turn, each many times, and the median of the samples of each.
+// Timing: several pieces of work in turn, each many times, and the second smallest sample of each.
 
 #[repr(C)]
 struct Timespec {
@@ -27,7 +27,7 @@ fn now() -> f64 {
 pub struct Pace {
     /// How long a sample takes, at least, in nanoseconds.
     pub sample: f64,
-    /// The number of samples, of which the median counts.
+    /// The number of samples, of which the second smallest counts.
     pub samples: usize,
 }
 
@@ -64,9 +64,10 @@ impl<'a> Racer<'a> {
     }
 }
 
-fn median(mut samples: Vec<f64>) -> f64 {
+// What disturbs a sample makes it longer, so the small ones tell most, and the very smallest may be an accident.
+fn second_smallest(mut samples: Vec<f64>) -> f64 {
     samples.sort_by(f64::total_cmp);
-    samples[samples.len() / 2]
+    samples[1]
 }
 
 /// The time of each piece of work, by part, in nanoseconds. The samples of all are taken in turn, so that what slows the machine down for a
@@ -79,7 +80,7 @@ pub fn race(racers: &mut [Racer], pace: Pace) -> Vec<f64> {
             samples.push(racer.time(*repeats) / (*repeats as f64 * racer.parts));
         }
     }
-    samples.into_iter().map(median).collect()
+    samples.into_iter().map(second_smallest).collect()
 }
 
 /// The time of one run of a piece of work, in nanoseconds.

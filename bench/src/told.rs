@@ -12,7 +12,8 @@ pub struct Told {
     pub third: usize,
 }
 
-/// A refusal, by its number, the part, and which index of the call; all 0 for none.
+/// A refusal: its number, and in which part of which index; all 0 for none. Index 1 is the one that is read, or the free bays; 2 is the one
+/// that is filled, or the class.
 #[repr(C)]
 #[derive(Clone, Copy, Default, PartialEq, Eq, Debug)]
 pub struct Fault {

@@ -53,6 +53,14 @@ impl<'a> Bits<'a> {
         self.len.div_ceil(64)
     }
 
+    /// Copies whole words from word `w` on.
+    #[inline]
+    pub fn copy_words(self, w: u32, words: &mut [u64]) {
+        for (word, eight) in words.iter_mut().zip(self.bytes[8 * w as usize..].as_chunks().0) {
+            *word = u64::from_le_bytes(*eight);
+        }
+    }
+
     #[inline]
     pub fn get(self, i: u32) -> bool {
         let p = i - 1;

@@ -96,8 +96,15 @@ impl Set for List<'_> {
     }
 
     fn decode(&self, words: &mut Words) {
+        // The numbers rise, so each word is written anew with each number in it, and never read.
+        let (mut at, mut word) = (0, 0);
         for n in self.numbers {
-            words[usize::from(*n - 1) / 64] |= 1 << ((*n - 1) % 64);
+            let place = *n - 1;
+            let w = usize::from(place) / 64;
+            word = if w == at { word } else { 0 };
+            at = w;
+            word |= 1 << (place % 64);
+            words[at] = word;
         }
     }
 }

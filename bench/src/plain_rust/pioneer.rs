@@ -2,7 +2,7 @@
 use super::bits::{Bits, Ones};
 use super::faults::{NUMBERS_LAST, UNLAWFUL, check, check_last, check_length, check_spare};
 use super::set::{Set, share};
-use super::words::{Row, Words, fill_range};
+use super::words::{Row, Words, reach};
 use super::writer::Writer;
 use crate::form::Sort;
 use crate::told::Fault;
@@ -179,10 +179,23 @@ impl Set for Pioneer<'_> {
     }
 
     fn decode(&self, words: &mut Words) {
-        let mut before = 0;
-        for (start, sum) in self.starts.all().zip(self.sums.all()) {
-            fill_range(words, start - 1, start - 1 + (sum - before));
-            before = sum;
+        let mut sums = self.sums.all();
+        // The members before the next run, and how many bays of the last one reach over into the next word.
+        let (mut before, mut over) = (0, 0);
+        for (w, word) in (0..self.starts.words()).zip(words) {
+            let mut starts = self.starts.word(w);
+            let mut bays = reach(over);
+            over = u32::saturating_sub(over, 64);
+            while starts != 0 {
+                let place = starts.trailing_zeros();
+                starts &= starts - 1;
+                let sum = sums.next().unwrap_or(before);
+                let end = place + (sum - before);
+                bays |= reach(end) & (u64::MAX << place);
+                over = end.saturating_sub(64);
+                before = sum;
+            }
+            *word = bays;
         }
     }
 }

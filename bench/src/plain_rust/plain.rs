@@ -19,12 +19,6 @@ pub fn open(last: u32, bytes: &[u8]) -> Result<Plain<'_>, Fault> {
     Ok(Plain { bits: Bits::new(bytes, last) })
 }
 
-impl<'a> Plain<'a> {
-    pub fn bits(&self) -> Bits<'a> {
-        self.bits
-    }
-}
-
 impl Set for Plain<'_> {
     fn last(&self) -> u32 {
         self.bits.len()
@@ -62,8 +56,9 @@ impl Set for Plain<'_> {
     }
 
     fn decode(&self, words: &mut Words) {
-        for (w, word) in (0..self.bits.words()).zip(words) {
-            *word = self.bits.word(w);
+        self.bits.copy_words(0, words);
+        if let Some(end) = words.get_mut(self.last() as usize / 64) {
+            *end = self.bits.word(self.last() / 64);
         }
     }
 }

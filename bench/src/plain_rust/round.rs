@@ -1,9 +1,8 @@
 // The calls of a round over two sets: a sheet, the nearest free bay, and counts.
-use super::bits::Bits;
 use super::faults::of_second;
 use super::index::{Index, with_index};
 use super::set::Set;
-use super::words::{Row, WORDS, Words, low};
+use super::words::{WORDS, Words, low, nth_one, reach};
 use crate::form::Sort;
 use crate::told::{Fault, Report, Stored};
 
@@ -26,13 +25,12 @@ struct Stretches {
     class_ahead: bool,
 }
 
-// Which bays of a row that lie in `there` come first behind one of `from`, where the row is the bays of `from` and of no set, and those
-// in `there` end it: the carry of an addition goes through the row.
+// The bays at which a row ends behind a bay of `from`, where the row is bays of no set and of `from` alone: the carry of an addition goes
+// through it.
 #[inline]
-fn reached(row: u64, from: u64, ahead: &mut bool) -> u64 {
-    let (sum, over) = row.overflowing_add(from);
-    let (sum, over_too) = sum.overflowing_add(u64::from(*ahead));
-    *ahead = over | over_too;
+fn ends(row: u64, from: u64, ahead: &mut bool) -> u64 {
+    let (sum, over) = row.carrying_add(from, *ahead);
+    *ahead = over;
     sum
 }
 
@@ -41,54 +39,84 @@ impl Stretches {
     #[inline]
     fn next(&mut self, free: u64, class: u64) -> u64 {
         let (common, free_alone, class_alone) = (free & class, free & !class, class & !free);
-        let behind_free = reached(!class, free_alone, &mut self.free_ahead);
-        let behind_class = reached(!free, class_alone, &mut self.class_ahead);
+        let behind_free = ends(!class, free_alone, &mut self.free_ahead);
+        let behind_class = ends(!free, class_alone, &mut self.class_ahead);
         let begins = common | common << 1 | self.begins | (class_alone & behind_free) | (free_alone & behind_class);
         self.begins = common >> 63;
         begins
     }
 }
 
-// A sheet of the common bays from `place` to `last`, of two rows.
-fn write_sheet<F: Row, C: Row>(free: F, class: C, place: u32, last: u32, out: &mut [u32]) -> Report {
-    let mut report = Report { handed: 0, stretches: 0, place };
-    if out.is_empty() || place > last {
-        return report;
+// Writes a set to words that are 0, without the bays before `place`.
+fn decode_from(index: &Index, place: u32, words: &mut Words) {
+    with_index!(index, set => set.decode(words));
+    let (w, shift) = (((place - 1) / 64) as usize, (place - 1) % 64);
+    words[..w].fill(0);
+    if w < WORDS {
+        words[w] &= u64::MAX << shift;
     }
-    let mut rest = out;
-    let mut stretches = Stretches { begins: 1 << ((place - 1) % 64), ..Stretches::default() };
-    let mut within = u64::MAX << ((place - 1) % 64);
-    for w in (place - 1) / 64..last.div_ceil(64) {
-        within &= low((last - 64 * w).min(64));
-        let (f, c) = (free.word(w) & within, class.word(w) & within);
-        let begins = stretches.next(f, c) & within;
-        within = u64::MAX;
-        let mut common = f & c;
-        let room = rest.len();
-        let (here, behind) = rest.split_at_mut(room.min(common.count_ones() as usize));
-        for slot in &mut *here {
-            *slot = 64 * w + common.trailing_zeros() + 1;
-            common &= common - 1;
-        }
-        report.handed += here.len() as u32;
-        if here.len() == room {
-            let bay = here[room - 1];
-            report.stretches += (begins & low((bay - 1) % 64 + 1)).count_ones();
-            report.place = bay + 1;
-            return report;
-        }
-        report.stretches += begins.count_ones();
-        rest = behind;
-    }
-    report.place = last + 1;
-    report
 }
 
-// A set as words.
-fn words_of(index: &Index) -> Words {
-    let mut words = [0; WORDS];
-    with_index!(index, set => set.decode(&mut words));
-    words
+// Up to so many ends and beginnings of runs in a word, its bays are written run by run.
+const FEW: u32 = 8;
+
+// Writes the bays of a word, behind the bay `base`, to a memory of just so many.
+#[inline]
+fn write_bays(mut word: u64, base: u32, out: &mut [u32]) {
+    if (word ^ word << 1).count_ones() > FEW {
+        for slot in out {
+            *slot = base + word.trailing_zeros() + 1;
+            word &= word - 1;
+        }
+        return;
+    }
+    let mut rest = out;
+    while word != 0 {
+        let start = word.trailing_zeros();
+        let length = (word >> start).trailing_ones();
+        let (run, behind) = rest.split_at_mut(length as usize);
+        for (slot, bay) in run.iter_mut().zip(base + start + 1..) {
+            *slot = bay;
+        }
+        rest = behind;
+        word &= u64::MAX.checked_shl(start + length).unwrap_or(0);
+    }
+}
+
+// Writes the common bays of two sets, as many as there is room for, and tells how many those are.
+fn list_common(free: &[u64], class: &[u64], out: &mut [u32]) -> usize {
+    let mut handed = 0;
+    for (w, (f, c)) in (0..).zip(free.iter().zip(class)) {
+        let mut common = f & c;
+        if common == 0 {
+            continue;
+        }
+        let (mut found, room) = (common.count_ones() as usize, out.len() - handed);
+        if found > room {
+            common &= reach(if room == 0 { 0 } else { nth_one(common, room as u32) + 1 });
+            found = room;
+        }
+        write_bays(common, 64 * w, &mut out[handed..handed + found]);
+        handed += found;
+        if found == room {
+            break;
+        }
+    }
+    handed
+}
+
+// How many stretches begin from `place` to before `end`, of two sets without the bays before the place.
+fn count_stretches(free: &Words, class: &Words, place: u32, end: u32) -> u32 {
+    if place == end {
+        return 0;
+    }
+    let (first, last) = (((place - 1) / 64) as usize, ((end - 2) / 64) as usize);
+    let mut stretches = Stretches { begins: 1 << ((place - 1) % 64), ..Stretches::default() };
+    let mut taken = 0;
+    for (f, c) in free[first..last].iter().zip(&class[first..last]) {
+        taken += stretches.next(*f, *c).count_ones();
+    }
+    taken + (stretches.next(free[last], class[last]) & low((end - 2) % 64 + 1)).count_ones()
 }
 
 /// A sheet from `place` on: the common bays as they fit, and what the round then tells.
@@ -98,10 +126,14 @@ pub fn sheet(f: Stored, c: Stored, place: u32, out: &mut [u32]) -> Result<Report
     if place == 0 || place > last + 1 {
         return Err(Fault { number: if place == 0 { NO_BAY } else { BEYOND }, ..Fault::default() });
     }
-    Ok(match (&free, &class) {
-        (Index::Plain(f), Index::Plain(c)) => write_sheet::<Bits, Bits>(f.bits(), c.bits(), place, last, out),
-        _ => write_sheet(&words_of(&free), &words_of(&class), place, last, out),
-    })
+    let (mut free_words, mut class_words) = ([0; WORDS], [0; WORDS]);
+    decode_from(&free, place, &mut free_words);
+    decode_from(&class, place, &mut class_words);
+    let words = last.div_ceil(64) as usize;
+    let handed = list_common(&free_words[..words], &class_words[..words], out);
+    let end = if handed == out.len() { out.last().map_or(place, |bay| bay + 1) } else { last + 1 };
+    let stretches = count_stretches(&free_words, &class_words, place, end);
+    Ok(Report { handed: handed as u32, stretches, place: end })
 }
 
 // The free bay up to `last` nearest to a bay, the lower at equal distance; 0 for none and for what is no bay of the round.

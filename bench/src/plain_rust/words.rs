@@ -19,6 +19,10 @@ pub trait Row: Copy {
     /// What the `n` bits from the place `from` on have.
     #[inline]
     fn seen(self, from: u32, n: u32) -> Seen {
+        if n <= 64 {
+            let bits = self.bits(from, n);
+            return Seen { one: bits != 0, zero: bits != low(n) };
+        }
         let (mut one, mut zero) = (false, false);
         let mut at = 0;
         while at < n && !(one && zero) {
@@ -49,6 +53,12 @@ impl Seen {
 #[inline]
 pub fn low(n: u32) -> u64 {
     u64::MAX >> (64 - n)
+}
+
+/// A word with its `n` lowest bits, or with all of them where `n` is above 64.
+#[inline]
+pub fn reach(n: u32) -> u64 {
+    if n >= 64 { u64::MAX } else { (1 << n) - 1 }
 }
 
 /// The place, from 0, of the `k`-th one of a word that has so many.

@@ -28,6 +28,20 @@ impl<'a> Writer<'a> {
         self.filled = filled - 64;
     }
 
+    /// Writes whole words.
+    #[inline]
+    pub fn push_words(&mut self, words: &[u64]) {
+        if self.filled > 0 {
+            words.iter().for_each(|word| self.push(*word, 64));
+            return;
+        }
+        let behind = self.at + 8 * words.len();
+        for (eight, word) in self.bytes[self.at..behind].as_chunks_mut().0.iter_mut().zip(words) {
+            *eight = word.to_le_bytes();
+        }
+        self.at = behind;
+    }
+
     /// Writes what is pending.
     pub fn finish(self) {
         let rest = self.filled.div_ceil(8) as usize;

@@ -48,9 +48,9 @@ enum Kind {
     Mixed,
 }
 
-// 64 blocks at a time: which of those from the `first` on are mixed, and which are all members.
+// Up to 64 blocks from one on: which of them are mixed, and which are all members.
 #[derive(Clone, Copy)]
-struct Group {
+struct Span {
     mixed: u64,
     all: u64,
 }
@@ -177,32 +177,39 @@ impl Zombit<'_> {
     }
 
     #[inline]
-    fn group(&self, w: u32) -> Group {
-        let valid = low((self.blocks() - 64 * w).min(64));
-        let uniform = self.uniform.word(w);
-        Group { mixed: !uniform & valid, all: uniform & self.marked.word(w) }
+    fn span(&self, block: u32, width: u32) -> Span {
+        let uniform = self.uniform.bits(block, width);
+        let valid = low(width.min(self.blocks() - block));
+        Span { mixed: !uniform & valid, all: uniform & self.marked.bits(block, width) }
     }
 
     // What lies before the end of some blocks, where so much lies before them.
     #[inline]
-    fn behind(&self, before: Before, blocks: Group) -> Before {
+    fn behind(&self, before: Before, blocks: Span) -> Before {
         let bits = before.bits + blocks.mixed.count_ones() * self.size;
         let members = blocks.all.count_ones() * self.size + self.mixed.ones(before.bits + 1, bits);
         Before { bits, members: before.members + members }
     }
 
-    // The group of 64 blocks that has the `n`-th bay of the sort, and what lies before it.
+    // The block that has the `n`-th bay of the sort, and what lies before it. It steps over many blocks at a time as long as the bay lies
+    // behind them, and then over fewer, so that little is counted twice.
     #[inline]
-    fn group_of(&self, sort: Sort, n: u32) -> Option<(u32, Before)> {
-        let mut before = Before::default();
-        for w in 0..self.uniform.words() {
-            let behind = self.behind(before, self.group(w));
-            if share(sort, behind.members, (64 * w + 64) * self.size) >= n {
-                return Some((w, before));
+    fn block_of(&self, sort: Sort, n: u32) -> Option<(u32, Before)> {
+        let (mut block, mut before) = (0, Before::default());
+        for width in [64, 8, 1] {
+            if width > 1 && width * self.size > 4096 {
+                continue;
             }
-            before = behind;
+            while block < self.blocks() {
+                let end = block + width.min(self.blocks() - block);
+                let behind = self.behind(before, self.span(block, width));
+                if share(sort, behind.members, end * self.size) >= n {
+                    break;
+                }
+                (block, before) = (end, behind);
+            }
         }
-        None
+        (block < self.blocks()).then_some((block, before))
     }
 }
 
@@ -262,33 +269,30 @@ impl Set for Zombit<'_> {
         if n == 0 {
             return None;
         }
-        let (w, mut before) = self.group_of(sort, n)?;
-        let group = self.group(w);
-        for k in 0..(self.blocks() - 64 * w).min(64) {
-            let block = 64 * w + k;
-            let one = Group { mixed: group.mixed & (1 << k), all: group.all & (1 << k) };
-            let behind = self.behind(before, one);
-            if share(sort, behind.members, (block + 1) * self.size) >= n {
-                let left = n - share(sort, before.members, block * self.size);
-                let at = if one.mixed == 0 { left } else { self.mixed.kth(sort, before.bits + 1, left)? - before.bits };
-                return Some(block * self.size + at).filter(|bay| *bay <= self.last);
-            }
-            before = behind;
-        }
-        None
+        let (block, before) = self.block_of(sort, n)?;
+        let left = n - share(sort, before.members, block * self.size);
+        let at = match self.kind(block) {
+            Kind::Mixed => self.mixed.kth(sort, before.bits + 1, left)? - before.bits,
+            _ => left,
+        };
+        Some(block * self.size + at).filter(|bay| *bay <= self.last)
     }
 
     fn decode(&self, words: &mut Words) {
         let mut bits = 0;
-        for block in 0..self.blocks() {
-            let from = block * self.size;
-            let to = self.last.min(from + self.size);
-            match self.kind(block) {
-                Kind::Bare => {}
-                Kind::All => fill_range(words, from, to),
-                Kind::Mixed => {
+        for first in (0..self.blocks()).step_by(64) {
+            let Span { mixed, all } = self.span(first, 64);
+            let mut left = mixed | all;
+            while left != 0 {
+                let k = left.trailing_zeros();
+                left &= left - 1;
+                let from = (first + k) * self.size;
+                let to = self.last.min(from + self.size);
+                if mixed >> k & 1 == 1 {
                     copy(self.mixed, bits, words, from, to - from);
                     bits += self.size;
+                } else {
+                    fill_range(words, from, to);
                 }
             }
         }
@@ -299,6 +303,11 @@ impl Set for Zombit<'_> {
 #[inline]
 fn copy(row: Bits, from: u32, words: &mut Words, to: u32, n: u32) {
     let mut at = 0;
+    if from.is_multiple_of(64) && to.is_multiple_of(64) {
+        let whole = n / 64;
+        row.copy_words(from / 64, &mut words[(to / 64) as usize..][..whole as usize]);
+        at = 64 * whole;
+    }
     while at < n {
         let (w, shift) = ((to + at) / 64, (to + at) % 64);
         let take = (64 - shift).min(n - at);
@@ -307,20 +316,42 @@ fn copy(row: Bits, from: u32, words: &mut Words, to: u32, n: u32) {
     }
 }
 
+// What up to 64 blocks of a set are, from one on: which are mixed, and which have a member.
+struct Looks {
+    mixed: u64,
+    marked: u64,
+    blocks: u32,
+}
+
+// Looks at all blocks, 64 at a time.
+fn looks(words: &Words, last: u32, size: u32) -> impl Iterator<Item = (u32, Looks)> {
+    let count = last.div_ceil(size);
+    (0..count).step_by(64).map(move |first| {
+        let mut looks = Looks { mixed: 0, marked: 0, blocks: (count - first).min(64) };
+        for k in 0..looks.blocks {
+            let seen = words.seen((first + k) * size, size);
+            looks.mixed |= u64::from(seen.is_mixed()) << k;
+            looks.marked |= u64::from(seen.one) << k;
+        }
+        (first, looks)
+    })
+}
+
 /// How many blocks of the set are mixed.
 pub fn count_mixed(words: &Words, last: u32, size: u32) -> u32 {
-    (0..last.div_ceil(size)).filter(|block| words.seen(block * size, size).is_mixed()).count() as u32
+    looks(words, last, size).map(|(_, looks)| looks.mixed.count_ones()).sum()
 }
 
 /// Writes the parts of a set to memories of just their lengths.
 pub fn encode(words: &Words, last: u32, size: u32, parts: [&mut [u8]; 3]) {
     let [mut uniform, mut marked, mut mixed] = parts.map(Writer::new);
-    for block in 0..last.div_ceil(size) {
-        let seen = words.seen(block * size, size);
-        uniform.push(u64::from(!seen.is_mixed()), 1);
-        marked.push(u64::from(seen.one), 1);
-        if seen.is_mixed() {
-            push_block(&mut mixed, words, block * size, size);
+    for (first, looks) in looks(words, last, size) {
+        uniform.push(!looks.mixed & low(looks.blocks), looks.blocks);
+        marked.push(looks.marked, looks.blocks);
+        let mut left = looks.mixed;
+        while left != 0 {
+            push_block(&mut mixed, words, (first + left.trailing_zeros()) * size, size);
+            left &= left - 1;
         }
     }
     for row in [uniform, marked, mixed] {
@@ -332,6 +363,11 @@ pub fn encode(words: &Words, last: u32, size: u32, parts: [&mut [u8]; 3]) {
 #[inline]
 fn push_block(row: &mut Writer, words: &Words, from: u32, n: u32) {
     let mut at = 0;
+    if from.is_multiple_of(64) {
+        let whole = n / 64;
+        row.push_words(&words[(from / 64) as usize..][..whole as usize]);
+        at = 64 * whole;
+    }
     while at < n {
         let take = (n - at).min(64);
         row.push(words.bits(from + at, take), take);
