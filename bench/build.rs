@@ -1,4 +1,4 @@
-// Compiles the C++ of `shim/` and says where the static library of the bays lies (BAYS_LIB).
+// Compiles the C++ of `shim/` for a processor (BENCH_CPU), and says where the static library of the bays lies (BAYS_LIB).
 use std::env;
 use std::path::Path;
 use std::process::Command;
@@ -13,10 +13,11 @@ const ALIGNED: &str = "-Wa,-mbranches-within-32B-boundaries";
 
 fn main() {
     let out = env::var("OUT_DIR").expect("cargo sets OUT_DIR");
+    let march = format!("-march={}", env::var("BENCH_CPU").expect("bench/run sets BENCH_CPU"));
     let archive = format!("{out}/libshim.a");
     for name in ["sdsl", "roaring"] {
         let (source, object) = (format!("shim/{name}.cpp"), format!("{out}/{name}.o"));
-        run("g++", &["-O2", "-DNDEBUG", "-std=c++17", ALIGNED, "-c", &source, "-o", &object]);
+        run("g++", &["-O2", "-DNDEBUG", "-std=c++17", &march, ALIGNED, "-c", &source, "-o", &object]);
         run("ar", &["crs", &archive, &object]);
     }
     let bays = env::var("BAYS_LIB").expect("bench/run sets BAYS_LIB");
@@ -30,5 +31,7 @@ fn main() {
         println!("cargo:rerun-if-changed={seen}");
     }
     println!("cargo:rustc-link-arg=-Wl,-rpath,{folder}");
-    println!("cargo:rerun-if-env-changed=BAYS_LIB");
+    for seen in ["BAYS_LIB", "BENCH_CPU"] {
+        println!("cargo:rerun-if-env-changed={seen}");
+    }
 }

@@ -70,14 +70,21 @@ fn second_smallest(mut samples: Vec<f64>) -> f64 {
     samples[1]
 }
 
+// Work that takes so many nanoseconds is sampled only so many times.
+const SLOW: f64 = 2e7;
+const FEWEST: usize = 3;
+
 /// The time of each piece of work, by part, in nanoseconds. The samples of all are taken in turn, so that what slows the machine down for a
 /// while slows all of them.
 pub fn race(racers: &mut [Racer], pace: Pace) -> Vec<f64> {
     let repeats: Vec<usize> = racers.iter_mut().map(|racer| racer.repeats(pace)).collect();
     let mut samples = vec![Vec::new(); racers.len()];
-    for _ in 0..pace.samples {
+    for round in 0..pace.samples {
         for ((racer, repeats), samples) in racers.iter_mut().zip(&repeats).zip(&mut samples) {
-            samples.push(racer.time(*repeats) / (*repeats as f64 * racer.parts));
+            let slow = round >= FEWEST && samples[0] * racer.parts > SLOW;
+            if !slow {
+                samples.push(racer.time(*repeats) / (*repeats as f64 * racer.parts));
+            }
         }
     }
     samples.into_iter().map(second_smallest).collect()
