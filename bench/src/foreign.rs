@@ -71,20 +71,12 @@ impl Library {
                 nearest: bit_vector_nearest,
                 count: bit_vector_count,
             },
-            Library::SdVector => Calls {
-                new: sd_vector_new,
-                free: sd_vector_free,
-                ask: sd_vector_ask,
-                nearest: sd_vector_nearest,
-                count: sd_vector_count,
-            },
-            Library::Roaring => Calls {
-                new: roaring_of,
-                free: roaring_free,
-                ask: roaring_ask,
-                nearest: roaring_nearest,
-                count: roaring_count,
-            },
+            Library::SdVector => {
+                Calls { new: sd_vector_new, free: sd_vector_free, ask: sd_vector_ask, nearest: sd_vector_nearest, count: sd_vector_count }
+            }
+            Library::Roaring => {
+                Calls { new: roaring_of, free: roaring_free, ask: roaring_ask, nearest: roaring_nearest, count: roaring_count }
+            }
         }
     }
 }

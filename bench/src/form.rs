@@ -69,8 +69,7 @@ pub enum Question {
     Select,
 }
 
-pub const QUESTIONS: [Question; 5] =
-    [Question::Holds, Question::Next, Question::Previous, Question::Rank, Question::Select];
+pub const QUESTIONS: [Question; 5] = [Question::Holds, Question::Next, Question::Previous, Question::Rank, Question::Select];
 
 impl fmt::Display for Question {
     fn fmt(&self, f: &mut fmt::Formatter) -> fmt::Result {

@@ -39,10 +39,7 @@ struct Row<'a> {
 }
 
 fn add(table: &mut Table, count: &mut Count, kinds: &[Kind], row: Row) {
-    let cells: Vec<String> = kinds
-        .iter()
-        .map(|kind| count.judge((row.measured)(kind), (row.holds)(kind).then_some(row.goal)))
-        .collect();
+    let cells: Vec<String> = kinds.iter().map(|kind| count.judge((row.measured)(kind), (row.holds)(kind).then_some(row.goal))).collect();
     if cells.iter().any(|cell| cell != NOTHING) {
         table.row(row.name, [format!("{:.1}", row.goal)].into_iter().chain(cells));
     }
@@ -96,7 +93,12 @@ fn add_openings(table: &mut Table, count: &mut Count, kinds: &[Kind], forms: &[F
 fn add_fills(table: &mut Table, count: &mut Count, kinds: &[Kind], forms: &[Form], results: &Results) {
     for (from, to) in forms.iter().flat_map(|from| forms.iter().map(move |to| (*from, *to))) {
         let measured = |kind: &Kind| results.to_plain_rust(Work::FillFrom(from), kind.name, to);
-        add(table, count, kinds, Row { name: format!("{from} filled as {to}, to plain Rust"), goal: 1.5, measured: &measured, holds: ALWAYS });
+        add(
+            table,
+            count,
+            kinds,
+            Row { name: format!("{from} filled as {to}, to plain Rust"), goal: 1.5, measured: &measured, holds: ALWAYS },
+        );
     }
 }
 
@@ -127,7 +129,9 @@ fn print_growth(count: &mut Count, forms: &[Form], results: &Results) {
         }
     }
     if !table.is_empty() {
-        println!("Linear in the number of bays: a time that doubles with it may grow {LINEAR:.1}-fold here; a square would grow fourfold.\n");
+        println!(
+            "Linear in the number of bays: a time that doubles with it may grow {LINEAR:.1}-fold here; a square would grow fourfold.\n"
+        );
         table.print();
     }
 }

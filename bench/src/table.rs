@@ -28,8 +28,7 @@ impl Table {
 
     /// Prints the table, without the columns of which nothing was measured.
     pub fn print(&self) {
-        let used: Vec<usize> =
-            (0..self.head.len()).filter(|at| *at == 0 || self.rows.iter().any(|row| row[*at] != NOTHING)).collect();
+        let used: Vec<usize> = (0..self.head.len()).filter(|at| *at == 0 || self.rows.iter().any(|row| row[*at] != NOTHING)).collect();
         let line = |row: &[String]| println!("| {} |", used.iter().map(|at| row[*at].as_str()).collect::<Vec<_>>().join(" | "));
         line(&self.head);
         println!("|{}", "---|".repeat(used.len()));

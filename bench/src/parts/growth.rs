@@ -33,15 +33,16 @@ pub fn fills_of(forms: &[Form]) -> impl Iterator<Item = (Form, Form)> {
 
 /// By how much the time of a fill of ours grows where the bays double, at most.
 pub fn growth(results: &Results, from: Form, to: Form) -> Option<f64> {
-    let times: Option<Vec<f64>> =
-        SIZES.iter().map(|size| results.time(Work::FillFrom(from), size.name, By::Ours(to))).collect();
+    let times: Option<Vec<f64>> = SIZES.iter().map(|size| results.time(Work::FillFrom(from), size.name, By::Ours(to))).collect();
     times?.windows(2).map(|pair| pair[1] / pair[0]).max_by(f64::total_cmp)
 }
 
 /// Prints the table.
 pub fn print(forms: &[Form], results: &Results) {
     println!("### Fills of more and more bays\n");
-    println!("Dense sets. Times are of one fill: ours / plain Rust. The last column is by how much ours grows where the bays double, at most.\n");
+    println!(
+        "Dense sets. Times are of one fill: ours / plain Rust. The last column is by how much ours grows where the bays double, at most.\n"
+    );
     let mut table = Table::new("ns", names(&SIZES).chain(["growth".to_string()]));
     for (from, to) in fills_of(forms) {
         let times = SIZES.iter().map(|size| both(results, Work::FillFrom(from), size.name, to));

@@ -5,10 +5,10 @@ pub mod opening;
 pub mod questions;
 pub mod round;
 
+use crate::form::Form;
 use crate::kind::Kind;
 use crate::results::{By, Results, Work};
 use crate::table::{self, Table};
-use crate::form::Form;
 
 /// How the columns name the kinds.
 pub fn names(kinds: &[Kind]) -> impl Iterator<Item = String> {

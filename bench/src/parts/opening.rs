@@ -15,8 +15,12 @@ pub fn measure(garage: &Garage, forms: &[Form], pace: Pace, results: &mut Result
     for form in forms {
         let stored = garage.free.stored(*form);
         by.extend([By::Ours(*form), By::PlainRust(*form)]);
-        racers.push(Racer::new(1, move || { black_box(ours::open(black_box(stored))); }));
-        racers.push(Racer::new(1, move || { black_box(plain_rust::open(black_box(stored))); }));
+        racers.push(Racer::new(1, move || {
+            black_box(ours::open(black_box(stored)));
+        }));
+        racers.push(Racer::new(1, move || {
+            black_box(plain_rust::open(black_box(stored)));
+        }));
     }
     for (by, time) in by.into_iter().zip(race(&mut racers, pace)) {
         results.put(Work::Open, garage.kind.name, by, time);

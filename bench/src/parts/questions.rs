@@ -68,11 +68,14 @@ const SDSL: [Library; 2] = [Library::BitVector, Library::SdVector];
 
 // Our time by that of plain Rust, of sdsl and of CRoaring.
 fn ratios(results: &Results, work: Work, kind: &'static str, form: Form) -> String {
-    table::together([
-        results.to_plain_rust(work, kind, form),
-        results.to_libraries(work, kind, form, &SDSL),
-        results.to_libraries(work, kind, form, &[Library::Roaring]),
-    ].map(table::ratio))
+    table::together(
+        [
+            results.to_plain_rust(work, kind, form),
+            results.to_libraries(work, kind, form, &SDSL),
+            results.to_libraries(work, kind, form, &[Library::Roaring]),
+        ]
+        .map(table::ratio),
+    )
 }
 
 fn print_kind(kind: &Kind, forms: &[Form], sort: Sort, results: &Results) {
@@ -82,10 +85,13 @@ fn print_kind(kind: &Kind, forms: &[Form], sort: Sort, results: &Results) {
     let work = |question: &Question| Work::Ask(*question, sort);
     for form in forms {
         times.row(form, QUESTIONS.iter().map(|question| both(results, work(question), kind.name, *form)));
-        by_ratio.row(form, QUESTIONS.iter().map(|question| match sort {
-            Sort::Members => ratios(results, work(question), kind.name, *form),
-            Sort::Others => table::ratio(results.to_plain_rust(work(question), kind.name, *form)),
-        }));
+        by_ratio.row(
+            form,
+            QUESTIONS.iter().map(|question| match sort {
+                Sort::Members => ratios(results, work(question), kind.name, *form),
+                Sort::Others => table::ratio(results.to_plain_rust(work(question), kind.name, *form)),
+            }),
+        );
     }
     for library in LIBRARIES {
         let by = By::Library(library);
@@ -103,7 +109,9 @@ pub fn print(kinds: &[Kind], forms: &[Form], sort: Sort, results: &Results) {
     match sort {
         Sort::Members => {
             println!("### Questions about members\n");
-            println!("Times are of one answer: ours / plain Rust. Ratios are of ours to plain Rust / to the faster of sdsl's two / to CRoaring.\n");
+            println!(
+                "Times are of one answer: ours / plain Rust. Ratios are of ours to plain Rust / to the faster of sdsl's two / to CRoaring.\n"
+            );
         }
         Sort::Others => {
             println!("### Questions about non-members\n");

@@ -31,10 +31,9 @@ pub fn measure_sheet(garage: &Garage, forms: &[Form], pace: Pace, results: &mut 
     let mut racers = Vec::new();
     for form in forms {
         let (free, class) = (garage.free.stored(*form), garage.class.stored(*form));
-        for (name, sheet) in [
-            (By::Ours(*form), ours::sheet as fn(Stored, Stored, u32, &mut [u32]) -> _),
-            (By::PlainRust(*form), plain_rust::sheet),
-        ] {
+        for (name, sheet) in
+            [(By::Ours(*form), ours::sheet as fn(Stored, Stored, u32, &mut [u32]) -> _), (By::PlainRust(*form), plain_rust::sheet)]
+        {
             let mut out = vec![0; garage.kind.last as usize];
             by.push(name);
             racers.push(Racer::new(1, move || {
@@ -46,8 +45,8 @@ pub fn measure_sheet(garage: &Garage, forms: &[Form], pace: Pace, results: &mut 
     let mut out = vec![0; MOST_NUMBERS];
     by.push(By::Library(Library::Roaring));
     racers.push(Racer::new(1, move || {
-                black_box(Foreign::list(black_box(free), class, &mut out));
-            }));
+        black_box(Foreign::list(black_box(free), class, &mut out));
+    }));
     put_all(Work::Sheet, garage, by, racers, pace, results);
 }
 
