@@ -31,7 +31,7 @@ bit_past bs i l =
 pub byte_held : (bs : List ℕ) (j : ℕ) → get_or bs j 0 < 256 → Holds (bit_at bs) (8 * j) 8 (get_or bs j 0)
 byte_held bs j small = record { small = small; place = λ s l. bit_at_lem bs j s l }
 
-none_held : (bs : List ℕ) (p : ℕ) → Holds (bit_at bs) p 0 0
+pub none_held : (bs : List ℕ) (p : ℕ) → Holds (bit_at bs) p 0 0
 none_held bs p = record { small = omega arith; place = λ s l. absurd (omega arith) }
 
 -- one byte before those that are held
@@ -47,6 +47,16 @@ byte_before bs j m a small h = record {
       ∙ ap (λ d. eqb d 1) (sym (high_digit a (get_or bs j 0) (s - 8) small) ∙ ap (λ (y : ℕ). (a * 256 + get_or bs j 0) / 2 ^ y % 2) same))
       (cases_lt s 8);
 }
+
+pub bytes_before : (bs : List ℕ) (k n m w b : ℕ) → 1 ≤ k → get_or bs (k - 1) 0 < 256 → b ≡ get_or bs (k - 1) 0 → m ≡ n + 1 → Holds (bit_at bs) (8 * k) (8 * n) w
+    → Holds (bit_at bs) (8 * (k - 1)) (8 * m) (256 * w + b)
+bytes_before bs k n m w b one small same more h =
+    let at : k ≡ suc (k - 1) = omega arith in
+    let long : 8 + 8 * n ≡ 8 * m = omega arith in
+    let value : w * 256 + get_or bs (k - 1) 0 ≡ 256 * w + b = omega arith in
+    subst (λ (x : ℕ). Holds (bit_at bs) (8 * (k - 1)) (8 * m) x) value
+    (subst (λ (y : ℕ). Holds (bit_at bs) (8 * (k - 1)) y (w * 256 + get_or bs (k - 1) 0)) long
+    (byte_before bs (k - 1) (8 * n) w small (subst (λ (y : ℕ). Holds (bit_at bs) (8 * y) (8 * n) w) at h)))
 
 -- the n bytes from j + k on as one number, the lowest first
 unfoldable pub low_first : List ℕ → ℕ → ℕ → ℕ → ℕ

@@ -1,10 +1,10 @@
 -- What a number that holds some bits tells of them: how many pass a test, the first, the last and the k-th that does.
-use Rattle.std.proofs.Common.{◌≡◌, ℕ, zero, suc, ◌+◌, ◌-◌, ◌/◌, ◌%◌, ◌^◌, ◌<◌, ◌≤◌, Bool, true, false, not, eqb, leb, Some, None, sym, ap, ◌∙◌, subst, inr, ⊎_elim, lt_of_lt_of_le, add-zero, add-suc, mod-lt, mod-eq_of_lt, pow-suc, lt_of_not-le, arith, pow_pos, pow_mono, shr-shr}
+use Rattle.std.proofs.Common.{◌≡◌, ℕ, zero, suc, ◌+◌, ◌-◌, ◌*◌, ◌/◌, ◌%◌, ◌^◌, ◌<◌, ◌≤◌, Bool, true, false, not, eqb, leb, Some, None, sym, ap, ◌∙◌, subst, inr, ⊎_elim, lt_of_lt_of_le, add-zero, add-suc, mod-lt, mod-eq_of_lt, pow-suc, lt_of_not-le, arith, pow_pos, pow_mono, shr-shr}
 use native.Mathlib.Nat.{mod-one, div-eq_of_lt-le}
 use lib.Bits.{bit_and}
-use lib.Count.{ones, count_trailing_zeros, count_leading_zeros, leading_top}
+use lib.Count.{ones, count_trailing_zeros, count_leading_zeros, leading_top, trailing_of_zero}
 use lib.Pow.{shr_le}
-use Rattle.std.proofs.lemmas.Bool.{cases_lt, cond_both, eq-eqb, ne_eqb, leb-true, leb-false}
+use Rattle.std.proofs.lemmas.Bool.{cases_lt, cond_both, cond-false, lt-leb, eq-eqb, ne_eqb, leb-true, leb-false}
 use Rattle.sets.specs.Search.{first_from, count_to, kth_to}
 use Rattle.sets.proofs.Tests.{first_by, count_here, count_on, count_less, kth_by}
 use Rattle.bits.specs.Words.{digit, Holds, at_most}
@@ -71,6 +71,13 @@ module _ (f : ℕ → Bool) where
   pub count_all : (p m x : ℕ) → Holds f p m x → count_to f (p + m) ≡ count_to f p + ones x
   count_all p m x h = count_part p m x m h (omega arith) ∙ ap (λ (y : ℕ). count_to f p + ones y) (mod-eq_of_lt h.small)
 
+  -- in a word
+  pub count_word : (w x : ℕ) → Holds f (8 * (8 * w)) 64 x → count_to f (64 * w + 64) ≡ count_to f (64 * w) + ones x
+  count_word w x h =
+      let at : 8 * (8 * w) ≡ 64 * w = omega arith in
+      let end : 8 * (8 * w) + 64 ≡ 64 * w + 64 = omega arith in
+      omega (arith, count_all _ 64 x h, ap (count_to f) at, ap (count_to f) end)
+
   -- ---- the first after p + k
 
   shifted : (p m x k s : ℕ) → Holds f p m x → k + s < m → f (suc (p + (k + s))) ≡ digit (x / 2 ^ k) s
@@ -96,12 +103,32 @@ module _ (f : ℕ → Bool) where
             ap f at_j ∙ shifted p m x k s h (omega arith) ∙ miss _ (ap (λ (z : ℕ). z / 2 ^ s % 2) (sym e) ∙ trailing_low m y s (omega arith)),
       )
 
+  pub some_in : (p q m x : ℕ) → q ≡ p → Holds f p m x → 0 < x → (i : ℕ) × ((q < i) × (i ≤ q + m) × (f i ≡ true))
+  some_in p q m x same h some =
+      let t = count_trailing_zeros m x in
+      let inside : t < m = trailing_some m x some h.small in
+      (suc (p + t), (omega arith, omega arith, h.place t inside ∙ eq-eqb _ 1 (trailing_hit m x inside)))
+
   pub up_first : (from last q : ℕ) → 1 ≤ from → from ≤ q → f q ≡ true → Without f (from - 1) (q - 1) → at_most last q ≡ first_from f from (suc last - from)
   up_first from last q one low hit none =
       cond_both (leb q last) (Some q) None (λ r. r ≡ first_from f from (suc last - from))
       (λ e. let high = leb-true q last e in
       first_by f from _ (Some q) (low, omega arith, hit, λ j a b. none j (omega arith) (omega arith)))
       (λ e. let high = leb-false q last e in first_by f from _ None (λ j a b. none j (omega arith) (omega arith)))
+
+  -- behind places of which none passes; where x has no one, none is left
+  pub up_word : (from last w x : ℕ) → 1 ≤ from → from ≤ 64 * w → Holds f (64 * w) 64 x → Without f (from - 1) (64 * w) → (x ≡ 0 → last ≤ 64 * w + 64)
+      → at_most last (64 * w + 1 + count_trailing_zeros 64 x) ≡ first_from f from (suc last - from)
+  up_word from last w x one start held none left = ⊎_elim
+      (λ zero.
+      let e : x ≡ 0 = omega arith in
+      let past : last < 64 * w + 1 + count_trailing_zeros 64 x = omega (arith, left e, ap (count_trailing_zeros 64) e, trailing_of_zero 64) in
+      cond-false _ _ _ (lt-leb _ last past)
+      ∙ first_by f from _ None (λ j l h. ⊎_elim (λ more. none_past (64 * w) 64 x 0 held (omega arith) j (omega arith) (omega (arith, left e))) (λ less. none j (omega arith) less) (cases_lt (64 * w) j)))
+      (λ some.
+      let first = first_past (64 * w) 64 x 0 x (64 * w + 1 + count_trailing_zeros 64 x) held (omega arith) some (omega arith) in
+      up_first from last _ one (omega arith) first.0 (joined (from - 1) (64 * w) _ none (λ j a b. first.1 j (omega arith) b)))
+      (cases_lt x 1)
 
   -- ---- the last
 

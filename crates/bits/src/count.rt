@@ -5,7 +5,7 @@ ghost use Rattle.sets.specs.Search.{count_to, kth_to};
 ghost use Rattle.bits.specs.Bits.{bit_at, is_bit};
 
 use super::scan::at_most;
-use super::words::{whole_word, word};
+use super::words::{whole_word, whole_word_of, word};
 use sets::Sort;
 
 // How many of the bits of the words `from` to `to`, counted from 0, are 1, without the last.
@@ -68,6 +68,29 @@ fn stretch_with(bytes: &[u8], sort: Sort, k: u32, n: u32) -> (u32, u32)
     (n, left)
 }
 
+// Of the words `from` to `to`, counted from 0 and without the last, the one with the `k`-th bit of the sort behind the words before `from`, and
+// which of its bits it is; past `to` where there is none.
+fn word_with(bytes: &[u8], sort: Sort, from: u32, to: u32, k: u32) -> (u32, u32)
+    requires order { from ≤ to }
+    requires first { 1 ≤ k }
+    requires within { 8 * to ≤ length bytes.now }
+    ensures upto { result.0 ≤ to }
+    ensures some { 1 ≤ result.1 }
+    ensures left { count_to (is_bit bytes.now sort) (64 * result.0) + result.1 ≡ count_to (is_bit bytes.now sort) (64 * from) + k }
+    ensures here { result.0 < to
+        → count_to (is_bit bytes.now sort) (64 * result.0) + result.1 ≤ count_to (is_bit bytes.now sort) (64 * result.0 + 64) }
+{
+    let mut left = k;
+    for w in from..to {
+        let n = whole_word_of(bytes, sort, 8 * w as usize).count_ones();
+        if left <= n {
+            return (w, left);
+        }
+        left -= n;
+    }
+    (to, left)
+}
+
 /// The `k`-th bit of the sort from 1 to `last`; none at 0 and beyond their number.
 pub fn kth(bytes: &[u8], sort: Sort, k: u32, last: u32) -> Option<u32>
     requires within { last ≤ 8 * length bytes.now }
@@ -76,14 +99,11 @@ pub fn kth(bytes: &[u8], sort: Sort, k: u32, last: u32) -> Option<u32>
     if k == 0 {
         return None;
     }
-    let (stretch, mut left) = stretch_with(bytes, sort, k, last / 512);
-    for w in 8 * stretch..last.div_ceil(64) {
-        let v = word(bytes, sort, 8 * w as usize);
-        let n = v.count_ones();
-        if left <= n {
-            return at_most(64 * w as u64 + 1 + place_in_word(v, left) as u64, last);
-        }
-        left -= n;
+    let (stretch, left) = stretch_with(bytes, sort, k, last / 512);
+    let (w, left) = word_with(bytes, sort, 8 * stretch, last / 64, left);
+    let v = word(bytes, sort, 8 * w as usize);
+    if left > v.count_ones() {
+        return None;
     }
-    None
+    at_most(64 * w as u64 + 1 + place_in_word(v, left) as u64, last)
 }

@@ -38,13 +38,13 @@ loop-w-init c = (omega arith, λ j a b. none_past _ _ _ _ 0 (held _ c.in_ok-p.p 
 
 pub returns-then-x-ne0 : goal.returns-then-x-ne0
 returns-then-x-ne0 c =
-    let q = place (c.loop-w.w - 1) c.word-x.result in
-    let l = last_in_lem _ _ 64 _ _ q c.word-x.ensures (omega arith) (search rules) (omega arith) in
+    let q = place (c.loop-w.w - 1) c.whole_word_of-x.result in
+    let l = last_in_lem _ _ 64 _ _ q c.whole_word_of-x.ensures (omega arith) (search rules) (omega arith) in
     last_by _ _ _ (l.0, omega (arith, l.1), l.2, joined _ _ (64 * c.loop-w.w) _ (λ j a b. l.3 j a (omega arith)) c.loop-w.invariant.1)
 
 pub loop-w-preserved : goal.loop-w-preserved
 loop-w-preserved c =
-    let none = none_past _ _ _ _ 0 c.word-x.ensures (omega arith) in
+    let none = none_past _ _ _ _ 0 c.whole_word_of-x.ensures (omega arith) in
     (omega arith, joined _ _ (64 * c.loop-w.w) _ (λ j a b. none j (omega arith) (omega arith)) c.loop-w.invariant.1)
 
 pub returns : goal.returns
