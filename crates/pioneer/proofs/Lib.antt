@@ -1,4 +1,5 @@
 -- The lemmas of this crate.
+pub mod Taking
 pub mod Places
 pub mod Ranks
 pub mod Sides

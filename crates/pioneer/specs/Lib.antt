@@ -2,6 +2,7 @@
 pub mod Runs
 pub mod Decoding
 pub mod Found
+pub mod Ones
 pub mod Opening
 pub mod Filling
 pub mod Refilling

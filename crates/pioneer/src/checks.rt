@@ -1,14 +1,14 @@
 // Whether the rows make a pioneer index.
 ghost use Rattle.std.specs.Prelude.{◌≡◌, ◌≤◌};
 ghost use Rattle.bits.specs.Bits.{bit_at};
-ghost use Rattle.bits.specs.Checks.{Whole};
+ghost use Rattle.bits.specs.Checks.{Whole, Clear};
 ghost use Rattle.faults.specs.Checks.{CheckIs};
 ghost use Rattle.pioneer.specs.Opening.{runs_check};
 ghost use Rattle.pioneer.specs.Runs.{Lawful};
 
+use super::ones::Ones;
 use super::run::Run;
 use faults::Flaw;
-use sets::Sort;
 
 // Checks run by run that the rows make an index.
 pub(crate) fn check_runs(starts: &[u8], sums: &[u8], last: u32, count: u32) -> Result<(), Flaw>
@@ -16,21 +16,24 @@ pub(crate) fn check_runs(starts: &[u8], sums: &[u8], last: u32, count: u32) -> R
     requires most { count ≤ last }
     requires firsts { Whole last starts.now }
     requires ends { Whole count sums.now }
+    requires firsts_clear { Clear last starts.now }
+    requires ends_clear { Clear count sums.now }
     ensures answer { result ≡ runs_check last count (bit_at starts.now) (bit_at sums.now) }
     ensures law { CheckIs 6 (Lawful last count (bit_at starts.now) (bit_at sums.now)) result }
 {
     if count > 0 && !bits::get(sums, count) {
         return Err(Flaw::Unlawful);
     }
+    let (mut firsts, mut ends) = (Ones::after(starts, 0), Ones::after(sums, 0));
     // Before the first run stands an empty one, which ends before bay 1.
     let mut run = Run {
         start: 0,
         before: 0,
         length: 0,
     };
-    while let Some(start) = bits::next(starts, Sort::Members, run.start + 1, last) {
+    while let Some(start) = firsts.next() {
         let before = run.before + run.length;
-        let sum = bits::next(sums, Sort::Members, before + 1, count).ok_or(Flaw::Unlawful)?;
+        let sum = ends.next().ok_or(Flaw::Unlawful)?;
         let next = Run {
             start,
             before,
@@ -41,7 +44,7 @@ pub(crate) fn check_runs(starts: &[u8], sums: &[u8], last: u32, count: u32) -> R
         }
         run = next;
     }
-    match bits::next(sums, Sort::Members, run.before + run.length + 1, count) {
+    match ends.next() {
         Some(_) => Err(Flaw::Unlawful),
         None => Ok(()),
     }

@@ -12,6 +12,7 @@ mod fill;
 mod find;
 mod index;
 mod measuring;
+mod ones;
 mod open;
 mod run;
 mod slip;
