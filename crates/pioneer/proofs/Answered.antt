@@ -20,10 +20,10 @@ use Rattle.pioneer.proofs.Finding.{held_low}
 
 module _ (p : Pioneer) where
   -- the set of the index
-  abbrev meant : List Bool
+  abbrev pub meant : List Bool
   meant = set_of p.last p.count p.starts.now p.sums.now
 
-  member_is : (i : ℕ) → i ≤ p.last → member_of p i ≡ is_member meant i
+  pub member_is : (i : ℕ) → i ≤ p.last → member_of p i ≡ is_member meant i
   member_is i h = ⊎_elim
       (λ less.
       let z : i ≡ 0 = omega arith in

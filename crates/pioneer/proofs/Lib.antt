@@ -1,5 +1,6 @@
 -- The lemmas of this crate.
 pub mod Taking
+pub mod Words
 pub mod Places
 pub mod Ranks
 pub mod Sides
@@ -11,6 +12,8 @@ pub mod Finding
 pub mod Answered
 pub mod Members
 pub mod Writing
+pub mod Unpacking
+pub mod Packed
 pub mod Coding
 pub mod Demands
 pub mod Filled

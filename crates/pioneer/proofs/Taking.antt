@@ -71,12 +71,12 @@ module _ (f : ℕ → Bool) where
     abbrev at : ℕ
     at = b + 1 + zeros
 
-    first : (past f p at ≡ true) × ((j : ℕ) → b < j → j ≤ at - 1 → past f p j ≡ false)
+    pub first : (past f p at ≡ true) × ((j : ℕ) → b < j → j ≤ at - 1 → past f p j ≡ false)
     first =
         let found = first_past (past f p) b 64 x 0 x at h (omega arith) some (omega arith) in
         (found.0, λ j l g. found.1 j (omega arith) g)
 
-    parts : (p < at) × (f at ≡ true)
+    pub parts : (p < at) × (f at ≡ true)
     parts = let both = and_parts (ltb p at) (f at) first.0 in (ltb-true p at both.0, both.1)
 
     low : zeros < 64

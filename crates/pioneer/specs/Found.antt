@@ -4,7 +4,7 @@ use Rattle.sets.specs.Search.{count_to}
 use Rattle.bits.specs.Bits.{bit_at}
 use Rattle.pioneer.specs.declared.index.Pioneer.{Pioneer}
 use Rattle.pioneer.specs.declared.run.Run.{Run}
-use Rattle.pioneer.specs.Runs.{start_of, sum_of, length_of, in_run}
+use Rattle.pioneer.specs.Runs.{start_of, sum_of, length_of, behind_of, in_run}
 
 -- the rows of an index
 abbrev pub starts_of : Pioneer → ℕ → Bool
@@ -33,3 +33,9 @@ BegunIs p i (Some x) = (1 ≤ count_to (starts_of p) i) × RunIs p (count_to (st
 abbrev pub HeldIs : Pioneer → ℕ → Option Run → Type 0
 HeldIs p i None = member_of p i ≡ false
 HeldIs p i (Some x) = (member_of p i ≡ true) × RunIs p (count_to (starts_of p) i) x
+
+-- by bay i: how many members the runs have that have begun, and the first bay behind the last of them
+abbrev pub WalkedTo : Pioneer → ℕ → ℕ → ℕ → Type 0
+WalkedTo p i sum behind =
+    (sum ≡ sum_of p.last p.count (starts_of p) (sums_of p) (count_to (starts_of p) i))
+    × (behind ≡ behind_of p.last p.count (starts_of p) (sums_of p) (count_to (starts_of p) i))

@@ -3,6 +3,7 @@ pub mod Runs
 pub mod Decoding
 pub mod Found
 pub mod Ones
+pub mod Packed
 pub mod Opening
 pub mod Filling
 pub mod Refilling

@@ -44,6 +44,10 @@ impl<'a> Walking for Pioneer<'a> {
             }
         }
     }
+
+    fn bits(&self, before: u32, out: &mut [u8]) {
+        self.unpack(before, out);
+    }
 }
 
 impl<'a> Counting for Pioneer<'a> {

@@ -18,6 +18,7 @@ mod run;
 mod slip;
 mod source;
 mod told;
+mod unpack;
 mod write;
 
 pub use index::Pioneer;
