@@ -14,7 +14,11 @@ uint32_t next(roaring_uint32_iterator_t* from, uint32_t place) {
     return roaring_move_uint32_iterator_equalorlarger(from, place) ? from->current_value : 0;
 }
 
-uint32_t previous(const roaring_bitmap_t* set, uint32_t place) { return at(set, roaring_bitmap_rank(set, place)); }
+// The place itself, or one back from the first member behind it; behind the last one that is the last.
+uint32_t previous(roaring_uint32_iterator_t* from, uint32_t place) {
+    if (next(from, place) == place) return place;
+    return roaring_previous_uint32_iterator(from) ? from->current_value : 0;
+}
 
 }  // namespace
 
@@ -39,7 +43,7 @@ void roaring_ask(const roaring_bitmap_t* set, uint32_t question, const uint32_t*
             for (size_t j = 0; j < n; j++) answers[j] = next(&from, places[j]);
             break;
         case 2:
-            for (size_t j = 0; j < n; j++) answers[j] = previous(set, places[j]);
+            for (size_t j = 0; j < n; j++) answers[j] = previous(&from, places[j]);
             break;
         case 3:
             for (size_t j = 0; j < n; j++) answers[j] = roaring_bitmap_rank(set, places[j]);
@@ -58,7 +62,7 @@ void roaring_nearest(const roaring_bitmap_t* set, const uint32_t* places, size_t
             answers[j] = place;
             continue;
         }
-        const uint32_t below = previous(set, place);
+        const uint32_t below = previous(&from, place);
         answers[j] = below == 0 || (above != 0 && above - place < place - below) ? above : below;
     }
 }
