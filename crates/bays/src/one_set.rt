@@ -17,6 +17,7 @@ use super::refusing::{
 use super::structs::{BaysFault, BaysTold};
 use super::telling::told_numbers;
 
+// Whether the index is opened, once its form has a name.
 fn open(told: &BaysTold, bytes: &[u8], numbers: &[u16]) -> Result<(), BaysFault>
     ensures { result ≡ opening_answer told.now bytes.now numbers.now }
 {
@@ -24,6 +25,7 @@ fn open(told: &BaysTold, bytes: &[u8], numbers: &[u16]) -> Result<(), BaysFault>
     batches::check(record_named(told, bytes, numbers)).map_err(|fault| fault_at(1, fault))
 }
 
+// The answers, once the form, the question and the sort have names.
 fn ask(
     told: &BaysTold,
     bytes: &[u8],
@@ -51,6 +53,7 @@ fn ask(
     .map_err(|fault| fault_at(1, fault))
 }
 
+// What is told, once both forms have names.
 fn measure(
     told: &BaysTold,
     bytes: &[u8],
@@ -71,6 +74,7 @@ fn measure(
     Ok(())
 }
 
+// What is filled and told, once both forms have names.
 fn fill(
     told: &BaysTold,
     bytes: &[u8],

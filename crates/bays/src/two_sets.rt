@@ -14,6 +14,7 @@ use super::refusing::{check_form, pair_fault, sheet_fault, verdict_numbers};
 use super::structs::{BaysFault, BaysReport, BaysTold};
 use super::telling::report_numbers;
 
+// The sheet and the report, once both forms have names. So below.
 fn sheet(
     free: &BaysTold,
     free_bytes: &[u8],
@@ -42,6 +43,7 @@ fn sheet(
     Ok(())
 }
 
+// The nearest free bays.
 fn nearest(
     free: &BaysTold,
     free_bytes: &[u8],
@@ -64,6 +66,7 @@ fn nearest(
     batches::nearest(free, class, places, answers).map_err(pair_fault)
 }
 
+// The counts.
 fn count(
     free: &BaysTold,
     free_bytes: &[u8],
