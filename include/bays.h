@@ -1,8 +1,8 @@
 /* Sets of parking bays for C: the proved libraries, in libbays.a. docs/LIBRARY.md tells more.
  *
  * A set is the bays 1 to its last bay, which is from 1 to 65,535, each a member or not. An index is a set in bytes, in one of four forms;
- * its bytes are the caller's. Nothing is copied, allocated, kept between calls or shared between threads: what a call answers follows from what it
- * is passed.
+ * its bytes are the caller's. Nothing is copied, allocated, kept between calls or shared between threads: what a call answers follows from
+ * what it is passed.
  *
  * Each memory is passed as a pointer and how many elements lie there (of a uint16_t memory numbers, and not bytes). What every call asks of
  * its caller, and cannot test:
@@ -25,8 +25,9 @@ extern "C" {
 /* The forms of an index. */
 enum bays_form { BAYS_PLAIN = 0, BAYS_LIST = 1, BAYS_ZOMBIT = 2, BAYS_PIONEER = 3 };
 
-/* The questions: is a place a member (1 or 0); the next bay of the sort at or after the place; the previous one at or before it; how many bays of
- * the sort lie from 1 to the place; the bay of the sort with this number, counted from 1. 0 is answered where there is no such bay. */
+/* The questions: is a place a member (1 or 0); the next bay of the sort at or after the place; the previous one at or before it; how
+ * many bays of the sort lie from 1 to the place; the bay of the sort with this number, counted from 1. Where there is no such bay, the
+ * answer is 0. */
 enum bays_question { BAYS_HOLDS = 0, BAYS_NEXT = 1, BAYS_PREVIOUS = 2, BAYS_RANK = 3, BAYS_SELECT = 4 };
 
 /* The sorts of bays of a set: its members, and the others. */
@@ -99,23 +100,23 @@ BaysFault bays_fill(const BaysTold *told, const uint8_t *bytes, size_t bytes_len
 
 /* The calls on two sets: the free bays and a class of bays. Their last bay is the smaller of the two; a common bay is a member of both. */
 
-/* Opens a fresh round, goes to the place, writes one sheet, and closes the round. The sheet is the common bays from the place on, rising, as many
- * as out has room for, and *report is the closing report: as many bays at the front of out as were handed. What lies behind is kept. Numbers:
- * those of opening; 7 where the place is 0, 9 where it is beyond the one behind the last bay, both with index 0; 12. */
+/* Opens a fresh round, goes to the place, writes one sheet, and closes the round. The sheet is the common bays from the place on, rising,
+ * as many as out has room for, and *report is the closing report: as many bays at the front of out as were handed. What lies behind is
+ * kept. Numbers: those of opening; 7 where the place is 0, 9 where it is beyond the one behind the last bay, both with index 0; 12. */
 BaysFault bays_sheet(const BaysTold *free_told, const uint8_t *free_bytes, size_t free_bytes_length, const uint16_t *free_numbers,
                      size_t free_numbers_length, const BaysTold *class_told, const uint8_t *class_bytes, size_t class_bytes_length,
                      const uint16_t *class_numbers, size_t class_numbers_length, uint32_t place, uint32_t *out, size_t out_length,
                      BaysReport *report);
 
-/* answers[k] is the free bay up to the last bay that is nearest to places[k], the lower at equal distance; 0 for none, and where the place is 0 or
- * beyond the last bay. For as many as both have; behind that, answers are kept. Numbers: those of opening, 12. */
+/* answers[k] is the free bay up to the last bay that is nearest to places[k], the lower at equal distance; 0 for none, and where the place
+ * is 0 or beyond the last bay. For as many as both have; behind that, answers are kept. Numbers: those of opening, 12. */
 BaysFault bays_nearest(const BaysTold *free_told, const uint8_t *free_bytes, size_t free_bytes_length, const uint16_t *free_numbers,
                        size_t free_numbers_length, const BaysTold *class_told, const uint8_t *class_bytes, size_t class_bytes_length,
                        const uint16_t *class_numbers, size_t class_numbers_length, const uint32_t *places, size_t places_length,
                        uint32_t *answers, size_t answers_length);
 
-/* counts[k] is how many free bays lie from firsts[k] to lasts[k]; 0 where the first is 0 or above the last, or the last is beyond the last bay of
- * both. For as many as all three have; behind that, counts are kept. Numbers: those of opening, 12. */
+/* counts[k] is how many free bays lie from firsts[k] to lasts[k]; 0 where the first is 0 or above the last, or the last is beyond the last
+ * bay of both. For as many as all three have; behind that, counts are kept. Numbers: those of opening, 12. */
 BaysFault bays_count(const BaysTold *free_told, const uint8_t *free_bytes, size_t free_bytes_length, const uint16_t *free_numbers,
                      size_t free_numbers_length, const BaysTold *class_told, const uint8_t *class_bytes, size_t class_bytes_length,
                      const uint16_t *class_numbers, size_t class_numbers_length, const uint32_t *firsts, size_t firsts_length,
