@@ -1,11 +1,10 @@
 -- A search for what is wrong, as a check; and that the checks of O and of M ask for what is lawful.
-use Rattle.std.proofs.Common.{◌≡◌, ℕ, zero, suc, ◌+◌, ◌-◌, ◌*◌, ◌<◌, Bool, true, false, not, ◌&&◌, ◌||◌, List, is_some, Some, None, Ok, Err, Option, sym, refl, ap, ◌∙◌, ⊎_elim, add-one, arith}
-use Rattle.std.specs.List.{list_any, range_with_len}
+use Rattle.std.proofs.Common.{◌≡◌, ℕ, suc, ◌+◌, ◌-◌, ◌*◌, ◌<◌, Bool, true, false, not, List, is_some, Some, None, Ok, Err, Option, sym, refl, ap, ◌∙◌, ⊎_elim, arith}
 use Rattle.faults.specs.Checks.{CheckIs, none_found}
 use Rattle.faults.specs.Numbers.{flaw_number}
 use Rattle.faults.specs.declared.fault.Flaw.{Flaw}
 use Rattle.faults.specs.declared.fault.Flaw.TheVariants.{Unlawful}
-use Rattle.std.proofs.lemmas.Bool.{cases_Bool, cases_lt, both_ways, cond-true, cond-false, and_parts, and_cases, and_left, ltb-true, ltb-false, not-true, not-false}
+use Rattle.std.proofs.lemmas.Bool.{cases_Bool, both_ways, cond-true, cond-false, and_parts, and_cases, and_left, ltb-true, ltb-false, not-true, not-false}
 use Rattle.sets.specs.Search.{first_from}
 use Rattle.sets.proofs.Tests.{FirstIs, first_law, first_by}
 use Rattle.bits.specs.Bits.{bit_at}
@@ -14,29 +13,6 @@ use Rattle.zombit.specs.Lawful.{Place, LawfulO, LawfulM}
 use Rattle.zombit.specs.Opening.{wrong_mark, mark_check, some_in, fit_block, wrong_mix, mix_check}
 
 -- ---- what is wrong in one of n blocks
-
--- asked of each number, and searched for
-pub any_first : (f : ℕ → Bool) (p n : ℕ) → list_any f (range_with_len p n) ≡ is_some (first_from f p n)
-unfolding first_from
-any_first f p zero = refl
-any_first f p (suc n) = ⊎_elim
-    (λ e. ap (λ b. b || list_any f (range_with_len (p + 1) n)) e ∙ sym (ap is_some (cond-true (f p) _ _ e)))
-    (λ e.
-    ap (λ b. b || list_any f (range_with_len (p + 1) n)) e ∙ ap (λ (q : ℕ). list_any f (range_with_len q n)) (add-one p) ∙ any_first f (suc p) n
-    ∙ sym (ap is_some (cond-false (f p) _ _ e)))
-    (cases_Bool (f p))
-
-pub some_wrong : (flaw : Flaw) (r : Option ℕ) → true ≡ is_some r → Err flaw ≡ none_found flaw r
-some_wrong flaw None e = absurd (both_ways _ refl (sym e))
-some_wrong flaw (Some k) e = refl
-
-pub no_wrong : (flaw : Flaw) (r : Option ℕ) → false ≡ is_some r → Ok tt ≡ none_found flaw r
-no_wrong flaw None e = refl
-no_wrong flaw (Some k) e = absurd (both_ways _ (sym e) refl)
-
--- one block more
-pub none_more : (f : ℕ → Bool) (k : ℕ) → ((j : ℕ) → j < k → f j ≡ false) → false ≡ f k → (j : ℕ) → j < k + 1 → f j ≡ false
-none_more f k none e j l = ⊎_elim (λ less. none j less) (λ same. let at : j ≡ k = omega arith in ap f at ∙ sym e) (cases_lt j k)
 
 module _ (f : ℕ → Bool) (n : ℕ) (flaw : Flaw) where
   pub none_wrong : ((k : ℕ) → k < n → f k ≡ false) → Ok tt ≡ none_found flaw (first_from f 0 n)
@@ -55,10 +31,6 @@ module _ (f : ℕ → Bool) (n : ℕ) (flaw : Flaw) where
       found : (r : Option ℕ) → FirstIs f 0 n r → CheckIs (flaw_number flaw) P (none_found flaw r)
       found None law = right (λ k l. law k (omega arith) (omega arith))
       found (Some q) law = (refl, wrong q (omega (arith, law.1)) law.2)
-
--- bit k + 1 tells of block k
-pub at_bit : (us : List ℕ) (k : ℕ) (b : Bool) → b ≡ bit_at us (k + 1) → bit_at us (suc k) ≡ b
-at_bit us k b e = ap (bit_at us) (sym (add-one k)) ∙ sym e
 
 -- ---- the bits of O
 
@@ -135,10 +107,7 @@ module _ (M : ℕ → Bool) (a β e : ℕ) where
       (and_cases _ _ h)
 
 module _ (u β : ℕ) (U M : ℕ → Bool) where
-  -- the check of one block: a mixed one is wrong exactly if its bits do not fit, a uniform one never
-  pub mix_here : (k a : ℕ) (fit : Bool) → a ≡ bits_before β U k → U (suc k) ≡ false → fit ≡ fit_block M a β (u - k * β) → not fit ≡ wrong_mix u β U M k
-  mix_here k a fit at mixed e = ap not e ∙ (λ t. not (sym mixed t) && not (fit_block M (at t) β (u - k * β)))
-
+  -- a uniform block is never wrong
   pub mix_on : (k : ℕ) → U (suc k) ≡ true → false ≡ wrong_mix u β U M k
   mix_on k uniform = sym (and_left _ _ (ap not uniform))
 

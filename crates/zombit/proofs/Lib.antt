@@ -16,3 +16,7 @@ pub mod Written
 pub mod Mixing
 pub mod Encoded
 pub mod Returned
+pub mod Seeing
+pub mod Passes
+pub mod Added
+pub mod Unpacked

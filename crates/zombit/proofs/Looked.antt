@@ -1,58 +1,57 @@
--- What a set says of a block: what was looked for in it, and whether it is mixed.
-use Rattle.std.proofs.Common.{◌≡◌, ℕ, suc, ◌+◌, ◌-◌, ◌<◌, ◌≤◌, Bool, true, false, not, leb, List, length, is_some, Some, None, Option, sym, ap, subst, ◌∙◌, ⊎_elim, arith}
-use Rattle.std.specs.Prelude.{MatchOption}
-use Rattle.std.proofs.lemmas.Bool.{cases_Bool, cases_lt, both_ways, leb-true, leb-false}
-use Rattle.sets.specs.declared.Sort.{Sort}
-use Rattle.sets.specs.declared.Sort.TheVariants.{Members, Others}
-use Rattle.sets.specs.Sets.{is, is_member, next_of}
-use Rattle.sets.proofs.Bays.{is_beyond, is_inside}
-use Rattle.sets.proofs.Tests.{FirstIs, first_law, first_by, first_agree, count_here, count_on}
+-- What is seen in the row of a set, and whether a block is mixed.
+use Rattle.std.proofs.Common.{◌≡◌, ℕ, suc, ◌+◌, ◌-◌, ◌*◌, ◌≤◌, Bool, true, false, not, List, length, is_some, sym, ap, ◌∙◌, ⊎_elim, arith}
+use Rattle.std.proofs.lemmas.Bool.{cases_lt}
+use Rattle.sets.specs.Packing.{pack, member_after}
+use Rattle.sets.specs.declared.Sort.TheVariants.{Members}
+use Rattle.sets.specs.Sets.{is_member}
+use Rattle.sets.proofs.Bays.{is_beyond}
+use Rattle.sets.proofs.Made.{made_is, made_outside, made_again}
+use Rattle.sets.proofs.Tests.{first_agree, count_here, count_on}
+use Rattle.bits.specs.Bits.{bit_at}
+use Rattle.bits.specs.Checks.{Clear}
+use Rattle.bits.proofs.Bytes.{bit_past}
+use Rattle.bits.proofs.Changed.{pack_tells}
 use Rattle.zombit.specs.Blocks.{mixed_before}
-use Rattle.zombit.specs.Filling.{has_member, is_mixed, uniform_bit, marked_bit}
+use Rattle.zombit.specs.Filling.{has_member, has_other, is_mixed, uniform_bit, marked_bit}
+use Rattle.zombit.specs.Looking.{set_in, RowOf}
 use Rattle.zombit.specs.Opening.{some_in}
-use Rattle.zombit.proofs.Checked.{some_none}
 
--- ---- what was looked for
+-- ---- a set by its row
 
-module _ (f : ℕ → Bool) (a n : ℕ) where
-  -- the first of the m numbers after the first a, with none after them, told by whether it is among the first n of them
-  some_of : (m : ℕ) (r : Option ℕ) (b : Bool) → ((j : ℕ) → a + m < j → f j ≡ false) → FirstIs f (suc a) m r → MatchOption r (b ≡ false) (λ q. b ≡ leb q (a + n)) → b ≡ some_in f a n
-  some_of m None b past law e =
-      e ∙ ap is_some (first_by f (suc a) n None (λ j l h. ⊎_elim (λ in'. law j l in') (λ out. past j (omega arith)) (cases_lt j (suc a + m))))
-  some_of m (Some q) b past law e = ⊎_elim
-      (λ y. e ∙ y ∙ ap is_some (first_by f (suc a) n (Some q) (law.0, omega (arith, leb-true q (a + n) y), law.2, law.3)))
-      (λ no. e ∙ no ∙ ap is_some (first_by f (suc a) n None (λ j l h. law.3 j l (omega (arith, leb-false q (a + n) no)))))
-      (cases_Bool (leb q (a + n)))
+module _ (u β : ℕ) (bits : List ℕ) (is_row : RowOf u β bits) where
+  abbrev s : List Bool
+  s = set_in u bits
 
--- what `next` found of a sort
-pub seen : (s : List Bool) (k : Sort) (a n p e : ℕ) (r : Option ℕ) (b : Bool) → p ≡ a + 1 → e ≡ a + n → r ≡ next_of s k p
-    → MatchOption r (b ≡ false) (λ q. b ≡ leb q e) → b ≡ some_in (is s k) a n
-unfolding next_of
-seen s k a n p e r b at end found test =
-    let from : p ≡ suc a = omega arith in
-    let m = suc (length s) - p in
-    let law = subst (FirstIs (is s k) p m) (sym found) (first_law (is s k) p m) in
-    some_of (is s k) a n m r b
-    (λ j l. is_beyond s k j (omega arith))
-    (subst (λ (t : ℕ). FirstIs (is s k) t m r) from law)
-    (subst (λ (t : ℕ). MatchOption r (b ≡ false) (λ q. b ≡ leb q t)) end test)
+  pub row_bay : (i : ℕ) → 1 ≤ i → bit_at bits i ≡ is_member s i
+  row_bay i one = ⊎_elim
+      (λ past. is_row.2 i past ∙ sym (made_outside u (bit_at bits) Members i past))
+      (λ upto. sym (made_is u (bit_at bits) Members i one upto))
+      (cases_lt u i)
 
--- ---- a place that is no member
+  pub row_member : (k a : ℕ) → a ≡ k * β + 0 → some_in (bit_at bits) a β ≡ has_member β s k
+  row_member k a at =
+      let same : a ≡ k * β = omega arith in
+      ap is_some (first_agree (bit_at bits) (is_member s) (suc a) β (λ j l h. row_bay j (omega arith))) ∙ ap (λ (x : ℕ). some_in (is_member s) x β) same
 
--- the bays that are of the other sort are those that are no members
-other_bay : (s : List Bool) (i : ℕ) → 1 ≤ i → i ≤ length s → is s Others i ≡ not (is_member s i)
-other_bay s i one l = is_inside s Others i one l ∙ ap not (sym (is_inside s Members i one l))
+  pub row_other : (k a : ℕ) → a ≡ k * β + 0 → some_in (λ i. not (bit_at bits i)) a β ≡ has_other β s k
+  row_other k a at =
+      let same : a ≡ k * β = omega arith in
+      ap is_some (first_agree (λ i. not (bit_at bits i)) (λ i. not (is_member s i)) (suc a) β (λ j l h. ap not (row_bay j (omega arith))))
+      ∙ ap (λ (x : ℕ). some_in (λ i. not (is_member s i)) x β) same
 
-pub other_within : (s : List Bool) (a n u : ℕ) (b : Bool) → u ≡ length s → a + n ≤ u → b ≡ some_in (is s Others) a n → b ≡ some_in (λ i. not (is_member s i)) a n
-other_within s a n u b long end e =
-    e ∙ ap is_some (first_agree (is s Others) (λ i. not (is_member s i)) (suc a) n (λ j l h. other_bay s j (omega arith) (omega arith)))
+-- the bits that a set wrote
+module _ (s : List Bool) (bits : List ℕ) (wrote : bits ≡ pack (8 * length bits) (member_after s 0)) where
+  wrote_bit : (i : ℕ) → 1 ≤ i → i ≤ 8 * length bits → bit_at bits i ≡ is_member s i
+  wrote_bit i one last = let same : 0 + i ≡ i = omega arith in pack_tells bits (8 * length bits) (member_after s 0) wrote i one last ∙ ap (is_member s) same
 
--- a place past the last bay is one
-pub other_past : (s : List Bool) (a n u : ℕ) → 1 ≤ n → u ≡ length s → u < a + n → some_in (λ i. not (is_member s i)) a n ≡ true
-other_past s a n u some long past = ⊎_elim
-    (λ e. e)
-    (λ none. absurd (both_ways _ (some_none (λ i. not (is_member s i)) a n none n (some, omega arith)) (ap not (is_beyond s Members (a + n) (omega arith)))))
-    (cases_Bool (some_in (λ i. not (is_member s i)) a n))
+  pub wrote_set : (u : ℕ) → u ≡ length s → length s ≤ 8 * length bits → set_in u bits ≡ s
+  wrote_set u long room = ap (λ (x : ℕ). set_in x bits) long ∙ made_again s (bit_at bits) (λ i one last. wrote_bit i one (omega arith))
+
+  pub wrote_clear : (u : ℕ) → u ≡ length s → Clear u bits
+  wrote_clear u long i past = ⊎_elim
+      (λ behind. bit_past bits i (omega arith))
+      (λ within. wrote_bit i (omega arith) within ∙ is_beyond s Members i (omega arith))
+      (cases_lt (8 * length bits) i)
 
 -- ---- the bits of a block
 

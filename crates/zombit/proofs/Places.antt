@@ -35,7 +35,7 @@ block_in u β k b h =
     let up = suc-mul k β in
     (le-div_iff_mul-le {k = β} {x = suc k} {y = u + (β - 1)} b).1 (omega arith)
 
-block_of : (u β k : ℕ) → 1 ≤ β → k < blocks_of u β → k * β < u
+pub block_of : (u β k : ℕ) → 1 ≤ β → k < blocks_of u β → k * β < u
 block_of u β k b h =
     let up = suc-mul k β in
     let l = (le-div_iff_mul-le {k = β} {x = suc k} {y = u + (β - 1)} b).0 h in

@@ -8,4 +8,6 @@ pub mod Meant
 pub mod Filling
 pub mod Measures
 pub mod Writing
+pub mod Looking
+pub mod Unpacking
 pub mod Refilling

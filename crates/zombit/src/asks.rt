@@ -47,6 +47,13 @@ impl<'a> Walking for Zombit<'a> {
             None => self.last_to_block(sort, block),
         }
     }
+
+    fn bits(&self, before: u32, out: &mut [u8]) {
+        out.fill(0);
+        if before < self.blocks.last {
+            self.unpack(before, out);
+        }
+    }
 }
 
 impl<'a> Counting for Zombit<'a> {

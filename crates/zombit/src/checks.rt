@@ -1,11 +1,14 @@
 // Whether numbers and bytes make a zombit index. What follows from an earlier check is asked of the caller.
-ghost use Rattle.std.specs.Prelude.{◌≡◌, ◌+◌, ◌*◌, ◌<◌, ◌≤◌, length};
+ghost use Rattle.std.specs.Prelude.{◌≡◌, ◌+◌, ◌-◌, ◌*◌, ◌≤◌, not, ◌&&◌, ◌||◌, length, is_some, nat_lt};
+ghost use Rattle.sets.specs.Search.{first_from};
 ghost use Rattle.bits.specs.Bits.{bit_at};
 ghost use Rattle.bits.specs.Checks.{Whole};
 ghost use Rattle.zombit.specs.Blocks.{blocks_of};
-ghost use Rattle.zombit.specs.Opening.{size_check, wrong_mark, mark_check, fit_block, mix_check, mixed_bits};
+ghost use Rattle.zombit.specs.Looking.{both_in, places_of};
+ghost use Rattle.zombit.specs.Opening.{size_check, some_in, mark_check, mix_check, mixed_bits};
 
 use super::blocks::Blocks;
+use super::seen::{has, look};
 use faults::{Flaw, check_range};
 use sets::Sort;
 
@@ -16,19 +19,41 @@ pub fn check_size(size: u32) -> Result<(), Flaw>
     check_range(size, 2, 4096, Flaw::BlockSize)
 }
 
-// Whether block `k`, from 0, has the wrong bit in `marked`.
-fn is_wrong_mark(blocks: Blocks, uniform: &[u8], marked: &[u8], k: u32) -> bool
-    requires block { k < blocks_of blocks.last blocks.size }
-    requires uniform { k < 8 * length uniform.now }
-    requires marked { k < 8 * length marked.now }
-    ensures { result ≡ wrong_mark blocks.last blocks.size (bit_at uniform.now) (bit_at marked.now) k }
+// Whether one of the `n` blocks after the first `before` is neither uniform nor marked.
+fn lacks_mark(uniform: &[u8], marked: &[u8], before: u32, n: u32) -> bool
+    requires first { 1 ≤ n }
+    requires few { n ≤ 64 }
+    requires uniform { before + n ≤ 8 * length uniform.now }
+    requires marked { before + n ≤ 8 * length marked.now }
+    ensures { result ≡ some_in (λ i. not (bit_at uniform.now i || bit_at marked.now i)) before n }
 {
-    let mark = bits::get(marked, k + 1);
-    if bits::get(uniform, k + 1) {
-        mark && blocks.place(k, blocks.size) > blocks.last
-    } else {
-        !mark
+    let lacking = !(bits::row(uniform, before) | bits::row(marked, before));
+    lacking & (u64::MAX >> (64 - n)) != 0
+}
+
+// Whether each of the first `count` blocks is uniform or marked.
+fn are_marked(uniform: &[u8], marked: &[u8], count: u32) -> bool
+    requires uniform { count ≤ 8 * length uniform.now }
+    requires marked { count ≤ 8 * length marked.now }
+    ensures { result ≡ not (some_in (λ i. not (bit_at uniform.now i || bit_at marked.now i)) 0 count) }
+{
+    for w in 0..count.div_ceil(64) {
+        if lacks_mark(uniform, marked, 64 * w, (count - 64 * w).min(64)) {
+            return false;
+        }
     }
+    true
+}
+
+// Whether the last block is all members, and reaches past the last bay.
+fn is_overfull(blocks: Blocks, uniform: &[u8], marked: &[u8]) -> bool
+    requires uniform { blocks_of blocks.last blocks.size ≤ 8 * length uniform.now }
+    requires marked { blocks_of blocks.last blocks.size ≤ 8 * length marked.now }
+    ensures { result ≡ (nat_lt blocks.last (places_of blocks.last blocks.size)
+        && (bit_at uniform.now (blocks_of blocks.last blocks.size) && bit_at marked.now (blocks_of blocks.last blocks.size))) }
+{
+    let count = blocks.count();
+    count * blocks.size > blocks.last && bits::get(uniform, count) && bits::get(marked, count)
 }
 
 // Checks that each mixed block is marked, and that no marked uniform block reaches past the last bay.
@@ -37,24 +62,41 @@ pub(crate) fn check_marks(blocks: Blocks, uniform: &[u8], marked: &[u8]) -> Resu
     requires marked { Whole (blocks_of blocks.last blocks.size) marked.now }
     ensures { result ≡ mark_check blocks.last blocks.size uniform.now marked.now }
 {
-    if (0..blocks.count()).any(|k| is_wrong_mark(blocks, uniform, marked, k)) {
-        Err(Flaw::Unlawful)
-    } else {
-        Ok(())
+    if !are_marked(uniform, marked, blocks.count()) {
+        return Err(Flaw::Unlawful);
     }
+    if is_overfull(blocks, uniform, marked) {
+        return Err(Flaw::Unlawful);
+    }
+    Ok(())
 }
 
-// Whether the `size` bits after the first `start` are a mixed block: with a one and a zero, and no one after the first `bays`.
-fn is_mixed_block(mixed: &[u8], start: u32, size: u32, bays: u32) -> bool
-    requires within { start + size ≤ 8 * length mixed.now }
+// Whether each `size` of the first `n` times `size` bits are a mixed block.
+fn are_mixed(mixed: &[u8], n: u32, size: u32) -> bool
+    requires first { 1 ≤ size }
+    requires within { n * size ≤ 8 * length mixed.now }
     requires small { length mixed.now ≤ 16384 }
-    requires bays { bays ≤ 65535 }
-    ensures { result ≡ fit_block (bit_at mixed.now) start size bays }
+    ensures { result ≡ not (is_some (first_from (λ k. not (both_in (bit_at mixed.now) (k * size) size)) 0 n)) }
 {
-    let last = start + size;
-    bits::next(mixed, Sort::Members, start + 1, last).is_some()
-        && bits::next(mixed, Sort::Others, start + 1, last).is_some()
-        && bits::next(mixed, Sort::Members, start + bays + 1, last).is_none()
+    for k in 0..n {
+        if !look(mixed, k * size, size).is_mixed() {
+            return false;
+        }
+    }
+    true
+}
+
+// Whether the last block is mixed, and has a member past the last bay. The mixed blocks take `bits` bits.
+fn has_member_past(blocks: Blocks, uniform: &[u8], mixed: &[u8], bits: u32) -> bool
+    requires uniform { Whole (blocks_of blocks.last blocks.size) uniform.now }
+    requires mixed { Whole (mixed_bits blocks.last blocks.size uniform.now) mixed.now }
+    requires bits { bits ≡ mixed_bits blocks.last blocks.size uniform.now }
+    ensures { result ≡ (not (bit_at uniform.now (blocks_of blocks.last blocks.size))
+        && some_in (bit_at mixed.now) (bits - (places_of blocks.last blocks.size - blocks.last)) (places_of blocks.last blocks.size - blocks.last)) }
+{
+    let count = blocks.count();
+    let past = count * blocks.size - blocks.last;
+    !bits::get(uniform, count) && has(mixed, Sort::Members, bits - past, past)
 }
 
 // Checks that each mixed block has a member and a non-member, and no member past the last bay.
@@ -63,14 +105,12 @@ pub(crate) fn check_mixes(blocks: Blocks, uniform: &[u8], mixed: &[u8]) -> Resul
     requires mixed { Whole (mixed_bits blocks.last blocks.size uniform.now) mixed.now }
     ensures { result ≡ mix_check blocks.last blocks.size uniform.now mixed.now }
 {
-    let mut start = 0;
-    for k in 0..blocks.count() {
-        if !bits::get(uniform, k + 1) {
-            if !is_mixed_block(mixed, start, blocks.size, blocks.last - k * blocks.size) {
-                return Err(Flaw::Unlawful);
-            }
-            start += blocks.size;
-        }
+    let bits = blocks.mixed_bits(uniform, blocks.count());
+    if !are_mixed(mixed, bits / blocks.size, blocks.size) {
+        return Err(Flaw::Unlawful);
+    }
+    if has_member_past(blocks, uniform, mixed, bits) {
+        return Err(Flaw::Unlawful);
     }
     Ok(())
 }

@@ -6,6 +6,7 @@ ghost use Rattle.zombit.specs.Filling.{uniform_of, marked_of, mixed_of, parts_of
 ghost use Rattle.zombit.specs.Opening.{part_check};
 
 use super::blocks::Blocks;
+use super::row::{ROW, decode};
 use super::slip::ZombitSlip;
 use super::told::ZombitTold;
 use super::write::write_rows;
@@ -53,7 +54,10 @@ impl<S: Walking> ZombitSlip<S> {
         let checked = check_rooms(told, uniform.len(), marked.len(), mixed.len());
         if checked.is_ok() {
             let ZombitTold { last, size, .. } = told;
-            write_rows(&set, Blocks { last, size }, uniform, marked, mixed);
+            let blocks = Blocks { last, size };
+            let mut memory = [0; ROW];
+            let row = decode(&set, blocks, &mut memory);
+            write_rows(row, blocks, uniform, marked, mixed);
         }
         (set, checked)
     }

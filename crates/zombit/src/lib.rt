@@ -18,11 +18,13 @@ mod index;
 mod kind;
 mod measuring;
 mod open;
+mod row;
 mod rows;
 mod seen;
 mod slip;
 mod source;
 mod told;
+mod unpack;
 mod write;
 
 pub use checks::check_size;

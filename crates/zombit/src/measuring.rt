@@ -3,24 +3,26 @@ ghost use Rattle.std.specs.Prelude.{◌≡◌, ◌≤◌, length};
 ghost use Rattle.sets.specs.Packing.{bytes_for};
 ghost use Rattle.zombit.specs.Blocks.{blocks_of, mixed_before};
 ghost use Rattle.zombit.specs.Filling.{uniform_bit};
+ghost use Rattle.zombit.specs.Looking.{set_in, RowOf};
 ghost use Rattle.zombit.specs.Measures.{telling, TellingIs, measuring, in_parts, MeasuringIs};
 
 use super::blocks::Blocks;
 use super::checks::check_size;
+use super::row::{ROW, decode};
 use super::slip::ZombitSlip;
 use super::told::ZombitTold;
 use faults::{Fault, Form, Located};
 use sets::Walking;
 
-// How many blocks of the set are mixed.
-fn count_mixed<S: Walking>(set: &S, blocks: Blocks) -> u32
-    requires { blocks.last ≡ length (S.Walking.meant set.now) }
-    ensures value { result ≡ mixed_before (uniform_bit blocks.size (S.Walking.meant set.now)) (blocks_of blocks.last blocks.size) }
+// How many blocks are mixed of the set whose bays are the bits of the row.
+fn count_mixed(row: &[u8], blocks: Blocks) -> u32
+    requires { RowOf blocks.last blocks.size row.now }
+    ensures value { result ≡ mixed_before (uniform_bit blocks.size (set_in blocks.last row.now)) (blocks_of blocks.last blocks.size) }
     ensures few { result ≤ blocks_of blocks.last blocks.size }
 {
     let mut mixed = 0;
     for k in 0..blocks.count() {
-        if blocks.is_mixed(set, k) {
+        if blocks.look(row, k).is_mixed() {
             mixed += 1;
         }
     }
@@ -43,13 +45,15 @@ impl ZombitTold {
         check_size(size).at(Form::Zombit, 0)?;
         let last = set.last();
         let blocks = Blocks { last, size };
-        let row = bytes_for(blocks.count());
+        let mut memory = [0; ROW];
+        let row = decode(set, blocks, &mut memory);
+        let length = bytes_for(blocks.count());
         Ok(ZombitTold {
             last,
             size,
-            uniform: row,
-            marked: row,
-            mixed: bytes_for(count_mixed(set, blocks) * size),
+            uniform: length,
+            marked: length,
+            mixed: bytes_for(count_mixed(row, blocks) * size),
         })
     }
 }

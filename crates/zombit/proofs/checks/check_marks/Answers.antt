@@ -1,23 +1,30 @@
 -- What is left to show of `check_marks`.
-use Rattle.std.proofs.Common.{ℕ, is_some, refl, sym, ap, ◌∙◌, arith, rules}
-use Rattle.std.proofs.lemmas.Iterator.{YieldsList-from_range}
-use Rattle.std.proofs.lemmas.Iterator.Search.{any_from_yields_List}
+use Rattle.std.proofs.Common.{ℕ, not, ◌||◌, sym, ap, ◌∙◌, arith}
+use Rattle.std.proofs.lemmas.Bool.{not-true, not-false}
 use Rattle.bits.specs.Bits.{bit_at}
-use Rattle.sets.specs.Search.{first_from}
-use Rattle.zombit.specs.Opening.{wrong_mark}
-use Rattle.zombit.proofs.Checked.{any_first, some_wrong, no_wrong}
+use Rattle.zombit.specs.Opening.{some_in}
+use Rattle.zombit.proofs.Passes.{mark_lacks, mark_past, marks_fit}
 use Rattle.zombit.proofs.checks.check_marks.Goals as goal
 
-pub returns-then-any : goal.returns-then-any
-returns-then-any c =
+pub returns-then-not-are_marked : goal.returns-then-not-are_marked
+returns-then-not-are_marked c =
     let b = c.args.blocks in
-    let f = wrong_mark b.last b.size (bit_at c.args.uniform.now) (bit_at c.args.marked.now) in
-    let any = any_from_yields_List f _ _ _ c.any.ensures.ran (YieldsList-from_range 0 c.count.result c.count.result refl (omega arith)) (λ x b q k. search rules) in
-    some_wrong _ _ (sym c.if-any.true ∙ any ∙ any_first f 0 _ ∙ ap (λ (n : ℕ). is_some (first_from f 0 n)) c.count.ensures)
+    let U = bit_at c.args.uniform.now in
+    let O = bit_at c.args.marked.now in
+    let e = c.if-not-are_marked.ensures in
+    mark_lacks b.last b.size U (omega (arith, b.blocked.0)) b.sized.0 O (not-false _ (sym (e ∙ ap (λ (n : ℕ). not (some_in (λ i. not (U i || O i)) 0 n)) c.count.ensures)))
 
-pub returns-else-any : goal.returns-else-any
-returns-else-any c =
+pub returns-then-is_overfull : goal.returns-then-is_overfull
+returns-then-is_overfull c =
     let b = c.args.blocks in
-    let f = wrong_mark b.last b.size (bit_at c.args.uniform.now) (bit_at c.args.marked.now) in
-    let any = any_from_yields_List f _ _ _ c.any.ensures.ran (YieldsList-from_range 0 c.count.result c.count.result refl (omega arith)) (λ x b q k. search rules) in
-    no_wrong _ _ (sym c.if-any.false ∙ any ∙ any_first f 0 _ ∙ ap (λ (n : ℕ). is_some (first_from f 0 n)) c.count.ensures)
+    mark_past b.last b.size (bit_at c.args.uniform.now) (omega (arith, b.blocked.0)) b.sized.0 (bit_at c.args.marked.now) (sym c.if-is_overfull.ensures)
+
+pub returns : goal.returns
+returns c =
+    let b = c.args.blocks in
+    let U = bit_at c.args.uniform.now in
+    let O = bit_at c.args.marked.now in
+    let e = c.if-not-are_marked.ensures in
+    marks_fit b.last b.size U (omega (arith, b.blocked.0)) b.sized.0 O
+    (not-true _ (sym (e ∙ ap (λ (n : ℕ). not (some_in (λ i. not (U i || O i)) 0 n)) c.count.ensures)))
+    (sym c.if-is_overfull.ensures)

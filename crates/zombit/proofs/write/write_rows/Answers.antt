@@ -4,10 +4,17 @@ use Rattle.sets.specs.Packing.{bytes_for, pack}
 use Rattle.sets.proofs.Packing.{pack_length}
 use Rattle.sets.specs.Lists.{over}
 use Rattle.zombit.specs.Blocks.{blocks_of}
+use Rattle.sets.specs.Made.{made_length}
+use Rattle.bits.specs.Bits.{bit_at}
+use Rattle.zombit.specs.Looking.{set_in}
 use Rattle.zombit.specs.Filling.{uniform_bit, marked_bit}
 use Rattle.bits.specs.Rows.{TellsRow}
 use Rattle.zombit.proofs.Written.{over_tells, over_long}
 use Rattle.zombit.proofs.write.write_rows.Goals as goal
+
+-- the last bay of the set in a row
+long_in : (u : ℕ) (row : List ℕ) → u ≡ length (set_in u row)
+long_in u row = sym (made_length u (bit_at row))
 
 -- so many bits as blocks were counted
 module _ (β : ℕ) (s : List Bool) (u n : ℕ) (last : u ≡ length s) (count : n ≡ blocks_of u β) where
@@ -27,37 +34,37 @@ module _ (β : ℕ) (s : List Bool) (u n : ℕ) (last : u ≡ length s) (count :
   tells row old memory e = subst (λ (x : ℕ). TellsRow x row memory) count (subst (TellsRow n row) (sym e) (over_tells n row old))
 
 pub write-requires-clause-room : goal.write-requires-clause-room
-write-requires-clause-room g c =
-    enough c.args.blocks.size (g.S.Walking.meant c.args.set.now) _ _ c.requires.last c.count-count.ensures (uniform_bit c.args.blocks.size (g.S.Walking.meant c.args.set.now)) _ c.requires.room_u
+write-requires-clause-room c =
+    enough c.args.blocks.size (set_in c.args.blocks.last c.args.row.now) _ _ (long_in c.args.blocks.last c.args.row.now) c.count-count.ensures (uniform_bit c.args.blocks.size (set_in c.args.blocks.last c.args.row.now)) _ c.requires.room_u
 
 pub write-requires-2-clause-room : goal.write-requires-2-clause-room
-write-requires-2-clause-room g c =
-    enough c.args.blocks.size (g.S.Walking.meant c.args.set.now) _ _ c.requires.last c.count-count.ensures (marked_bit c.args.blocks.size (g.S.Walking.meant c.args.set.now)) _ c.requires.room_o
+write-requires-2-clause-room c =
+    enough c.args.blocks.size (set_in c.args.blocks.last c.args.row.now) _ _ (long_in c.args.blocks.last c.args.row.now) c.count-count.ensures (marked_bit c.args.blocks.size (set_in c.args.blocks.last c.args.row.now)) _ c.requires.room_o
 
 pub write_mixed-requires-clause-long : goal.write_mixed-requires-clause-long
 unfolding uniform_bit
-write_mixed-requires-clause-long g c =
+write_mixed-requires-clause-long c =
     let b = c.args.blocks in
-    let s = g.S.Walking.meant c.args.set.now in
-    long b.size s b.last _ c.requires.last c.count-count.ensures (uniform_bit b.size s) _ _ (c.write.ensures (uniform_bit b.size s) (λ i m first last post. search rules))
+    let s = set_in c.args.blocks.last c.args.row.now in
+    long b.size s b.last _ (long_in c.args.blocks.last c.args.row.now) c.count-count.ensures (uniform_bit b.size s) _ _ (c.write.ensures (uniform_bit b.size s) (λ i m first last post. search rules))
 
 pub write_mixed-requires-clause-uniform : goal.write_mixed-requires-clause-uniform
 unfolding uniform_bit
-write_mixed-requires-clause-uniform g c =
+write_mixed-requires-clause-uniform c =
     let b = c.args.blocks in
-    let s = g.S.Walking.meant c.args.set.now in
-    tells b.size s b.last _ c.requires.last c.count-count.ensures (uniform_bit b.size s) _ _ (c.write.ensures (uniform_bit b.size s) (λ i m first last post. search rules))
+    let s = set_in c.args.blocks.last c.args.row.now in
+    tells b.size s b.last _ (long_in c.args.blocks.last c.args.row.now) c.count-count.ensures (uniform_bit b.size s) _ _ (c.write.ensures (uniform_bit b.size s) (λ i m first last post. search rules))
 
 pub returns-clause-uniform : goal.returns-clause-uniform
 unfolding uniform_bit
-returns-clause-uniform g c =
+returns-clause-uniform c =
     let b = c.args.blocks in
-    let s = g.S.Walking.meant c.args.set.now in
-    whole b.size s b.last _ c.requires.last c.count-count.ensures (uniform_bit b.size s) _ _ (c.write.ensures (uniform_bit b.size s) (λ i m first last post. search rules))
+    let s = set_in c.args.blocks.last c.args.row.now in
+    whole b.size s b.last _ (long_in c.args.blocks.last c.args.row.now) c.count-count.ensures (uniform_bit b.size s) _ _ (c.write.ensures (uniform_bit b.size s) (λ i m first last post. search rules))
 
 pub returns-clause-marked : goal.returns-clause-marked
 unfolding marked_bit
-returns-clause-marked g c =
+returns-clause-marked c =
     let b = c.args.blocks in
-    let s = g.S.Walking.meant c.args.set.now in
-    whole b.size s b.last _ c.requires.last c.count-count.ensures (marked_bit b.size s) _ _ (c.write-2.ensures (marked_bit b.size s) (λ i m first last post. search rules))
+    let s = set_in c.args.blocks.last c.args.row.now in
+    whole b.size s b.last _ (long_in c.args.blocks.last c.args.row.now) c.count-count.ensures (marked_bit b.size s) _ _ (c.write-2.ensures (marked_bit b.size s) (λ i m first last post. search rules))
