@@ -21,10 +21,8 @@ pub(crate) fn whole_word(bytes: &[u8], j: usize) -> u64
     requires within { j + 8 ≤ length bytes.now }
     ensures { Holds (bit_at bytes.now) (8 * j) 64 result }
 {
-    let Some(eight) = bytes[j..].first_chunk() else {
-        unreachable!()
-    };
-    u64::from_le_bytes(*eight)
+    let (eights, _) = bytes[j..].as_chunks();
+    u64::from_le_bytes(eights[0])
 }
 
 // The 64 bits from byte `j` on, where at most 8 bytes are left: the bits past the last byte are 0.
