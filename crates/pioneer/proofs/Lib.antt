@@ -1,6 +1,6 @@
 -- The lemmas of this crate.
 pub mod Taking
-pub mod Words
+pub mod Stretches
 pub mod Places
 pub mod Ranks
 pub mod Sides

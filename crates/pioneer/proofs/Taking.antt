@@ -45,7 +45,7 @@ module _ (f : ℕ → Bool) where
   past_out : (p i : ℕ) → i ≤ p → past f p i ≡ false
   past_out p i l = and_left _ _ (le-ltb p i l)
 
-  past_in : (p i : ℕ) → p < i → past f p i ≡ f i
+  pub past_in : (p i : ℕ) → p < i → past f p i ≡ f i
   past_in p i l = ap (λ b. b && f i) (lt-ltb p i l)
 
   -- all of a word, and those behind place p

@@ -15,7 +15,7 @@ use Rattle.pioneer.proofs.Places.{one_more, no_more, place_law, place_by, place_
 use Rattle.pioneer.proofs.Ranks.{gap, begun_some, outside, last_begun}
 use Rattle.pioneer.proofs.Sides.{run_inside}
 use Rattle.pioneer.proofs.Taking.{past, whole_held, taken, next_found, rest_none, at_within}
-use Rattle.pioneer.proofs.Words.{either_held}
+use Rattle.pioneer.proofs.Stretches.{either_held}
 
 module _ (p : Pioneer) where
   abbrev u : ℕ

@@ -6,4 +6,5 @@ pub mod Ones
 pub mod Packed
 pub mod Opening
 pub mod Filling
+pub mod Written
 pub mod Refilling

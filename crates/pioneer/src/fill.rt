@@ -7,7 +7,7 @@ ghost use Rattle.pioneer.specs.Filling.{starts_part, sums_part, parts_of};
 
 use super::slip::PioneerSlip;
 use super::told::PioneerTold;
-use super::write::{write_starts, write_sums};
+use super::write::write_parts;
 use faults::{Fault, Form, Located};
 use filling::check_room;
 use sets::Walking;
@@ -42,8 +42,7 @@ impl<S: Walking> PioneerSlip<S> {
         let PioneerSlip { set, told } = self;
         let checked = check_rooms(told, starts.len(), sums.len());
         if checked.is_ok() {
-            write_starts(&set, starts);
-            write_sums(&set, told.count, sums);
+            write_parts(&set, told.count, starts, sums);
         }
         (set, checked)
     }

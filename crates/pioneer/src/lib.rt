@@ -19,6 +19,7 @@ mod slip;
 mod source;
 mod told;
 mod unpack;
+mod words;
 mod write;
 
 pub use index::Pioneer;

@@ -10,13 +10,11 @@ use sets::Walking;
 fn count_members<S: Walking>(set: &S) -> u32
     ensures { result ≡ count_of (S.Walking.meant set.now) }
 {
-    let mut count = 0;
-    for i in 1..set.last() + 1 {
-        if set.holds(i) {
-            count += 1;
-        }
-    }
-    count
+    let last = set.last();
+    let mut memory = [0; 8192];
+    let row = &mut memory[..(last as usize).div_ceil(8)];
+    set.bits(0, row);
+    bits::ones(row, last)
 }
 
 impl PioneerTold {

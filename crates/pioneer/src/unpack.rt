@@ -1,34 +1,19 @@
 // The bits of the bays, made 64 at a time from the runs that begin among them and from the last one before.
-ghost use Rattle.std.specs.Prelude.{◌≡◌, ℕ, ◌+◌, ◌*◌, ◌<◌, ◌≤◌, Bool, ◌&&◌, length, nat_le, nat_lt};
+ghost use Rattle.std.specs.Prelude.{◌≡◌, ◌+◌, ◌*◌, ◌<◌, ◌≤◌, ◌&&◌, length, nat_le, nat_lt};
 ghost use Rattle.bits.specs.Words.{Holds};
 ghost use Rattle.pioneer.specs.Found.{member_of, WalkedTo};
-ghost use Rattle.pioneer.specs.Packed.{FrontHolds};
 ghost use Rattle.pioneer.specs.Runs.{set_of};
 ghost use Rattle.sets.specs.Packing.{pack, member_after};
 
 use super::index::Pioneer;
 use super::ones::Ones;
+use super::words::put_word;
 
 // How far a walk through the runs has come: the first bay behind the last run that has begun, and the sums behind that of this run.
 #[derive(Clone, Copy)]
 struct Walk<'a> {
     behind: u32,
     sums: Ones<'a>,
-}
-
-// Writes the eight bytes of `x` from byte 8 `w` on, as far as there are bytes.
-fn put_word(bytes: &mut [u8], w: usize, x: u64)
-    requires within { 8 * w ≤ length bytes.old }
-    ensures long { length bytes.new ≡ length bytes.old }
-    ensures front { (f : ℕ → Bool) → Holds f (64 * w) 64 x → FrontHolds f (8 * w) bytes.old → FrontHolds f (8 * w + 8) bytes.new }
-{
-    let eight = x.to_le_bytes();
-    let n = bytes.len() - 8 * w;
-    if n >= 8 {
-        bytes[8 * w..8 * w + 8].copy_from_slice(&eight);
-    } else {
-        bytes[8 * w..].copy_from_slice(&eight[..n]);
-    }
 }
 
 // Of the 64 bays after `base` those from `first` on, and before `behind`.

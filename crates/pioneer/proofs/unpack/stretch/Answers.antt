@@ -1,6 +1,6 @@
 -- What is left to show of `stretch`.
 use Rattle.std.proofs.Common.{arith}
-use Rattle.pioneer.proofs.Words.{from_held, first_held, all_held}
+use Rattle.pioneer.proofs.Stretches.{from_held, first_held, all_held}
 use Rattle.pioneer.proofs.unpack.stretch.Goals as goal
 
 pub returns-then-n-lt64 : goal.returns-then-n-lt64

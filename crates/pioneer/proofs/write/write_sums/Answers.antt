@@ -1,48 +1,35 @@
 -- What is left to show of `write_sums`.
-use Rattle.std.proofs.Common.{◌≡◌, ◌-◌, ◌≤◌, List, Bool, ℕ, length, sym, ◌∙◌, arith}
-use Rattle.sets.specs.Packing.{bytes_for}
-use Rattle.sets.proofs.Packing.{pack_length}
-use Rattle.pioneer.specs.Filling.{count_of, ends, sums_part}
-use Rattle.pioneer.proofs.Members.{rank_low}
-use Rattle.pioneer.proofs.Writing.{same_written, begun_written, number_within, last_written, run_written, gap_written, end_written}
+use Rattle.std.proofs.Common.{◌≡◌, ◌+◌, ◌*◌, sym, ◌∙◌, subst, arith}
+use Rattle.bits.specs.Bits.{bit_at}
+use Rattle.sets.specs.Search.{count_to}
+use Rattle.sets.proofs.Tests.{count_none}
+use Rattle.pioneer.specs.Filling.{count_of}
+use Rattle.pioneer.specs.Written.{SumsTo}
+use Rattle.pioneer.proofs.Writing.{tells_count, sums_none, sums_all, none_long}
 use Rattle.pioneer.proofs.write.write_sums.Goals as goal
-use Rattle.pioneer.proofs.write.write_sums.Goals.{then-holds+then-not-holds, then-holds+else-not-holds, else-holds}
 
--- so many bytes as the members take
-enough : (s : List Bool) (n m : ℕ) → n ≡ count_of s → length (sums_part s) ≤ m → bytes_for n ≤ m
-enough s n m all room = omega (arith, all, room, pack_length (count_of s) (ends s))
+pub loop-w-init : goal.loop-w-init
+loop-w-init c = record {
+  long = none_long c.args.count c.args.sums.now c.clear.new.bytes c.requires.room c.clear.ensures;
+  counted = sym (count_none (bit_at c.args.row.now));
+  written = λ s tells. sums_none s c.args.sums.now c.args.count c.clear.new.bytes (c.requires.all ∙ tells_count s c.args.row.now tells) c.clear.ensures;
+}
 
-pub clear-requires : goal.clear-requires
-clear-requires g c = enough (g.S.Walking.meant c.args.set.now) _ _ c.requires.all c.requires.room
+pub put_ends-before-requires-clause-room : goal.put_ends-before-requires-clause-room
+put_ends-before-requires-clause-room c = omega (arith, c.requires.all, c.requires.room, c.loop-w.invariant.long)
 
-pub loop-i-init : goal.loop-i-init
-loop-i-init g c = begun_written _ _ _ _ c.clear.ensures
-
-pub overflow_add-members : goal.overflow_add-members
-overflow_add-members g c =
-    let s = g.S.Walking.meant c.args.set.now in
-    omega (arith, c.loop-i.invariant.counted, rank_low s (c.loop-i.i - 1), c.last-i-end.ensures, (g.met.S.Walking.sized c.args.set.now).1)
-
-pub put-requires-clause-within : goal.put-requires-clause-within
-put-requires-clause-within g c =
-    let most = number_within _ _ _ c.loop-i.i _ _ c.loop-i.auto.i c.loop-i.invariant (sym c.if-holds.true ∙ c.holds.ensures) (omega (arith, c.last-i-end.ensures)) c.requires.all in
-    omega (arith, most, enough _ _ _ c.requires.all c.requires.room)
-
-pub loop-i-preserved : goal.loop-i-preserved
-loop-i-preserved g c =
-    let i = c.loop-i.i in
-    let l = c.loop-i.auto.i in
-    let w = c.loop-i.invariant in
-    elim c.if-holds.branch [
-      | then-holds+then-not-holds b ↦
-          let member = sym b.if-holds.true ∙ c.holds.ensures in
-          let most = number_within _ _ _ i _ _ l w member (omega (arith, c.last-i-end.ensures)) c.requires.all in
-          same_written _ _ _ _ _ _ _ _ b.members-is b.sums-is (last_written _ _ _ i _ _ l w _ member b.if-not-holds.ensures (b.put.ensures.bits _ _ _ most w.written (enough _ _ _ c.requires.all c.requires.room)))
-      | then-holds+else-not-holds b ↦
-          same_written _ _ _ _ _ _ _ _ b.members-is b.sums-is (run_written _ _ _ i _ _ l w (sym b.if-holds.true ∙ c.holds.ensures) b.if-not-holds.ensures)
-      | else-holds b ↦
-          same_written _ _ _ _ _ _ _ _ b.members-is b.sums-is (gap_written _ _ _ i _ _ l w (sym b.if-holds.false ∙ c.holds.ensures))
-    ]
+pub loop-w-preserved : goal.loop-w-preserved
+loop-w-preserved c =
+    let inv = c.loop-w.invariant in
+    let on : 64 * c.loop-w.w + 64 ≡ 64 * (c.loop-w.w + 1) = omega arith in
+    record {
+      long = c.put_ends-before.ensures.long ∙ inv.long;
+      counted = subst (λ i. c.put_ends-before.result ≡ count_to (bit_at c.args.row.now) i) on c.put_ends-before.ensures.count;
+      written = λ s tells.
+          let all : c.args.count ≡ count_of s = c.requires.all ∙ tells_count s c.args.row.now tells in
+          subst (λ i. SumsTo s c.args.sums.now i c.put_ends-before.new.sums) on (c.put_ends-before.ensures.sums s c.args.sums.now tells (omega (arith, all, c.requires.room)) (inv.written s tells));
+    }
 
 pub returns : goal.returns
-returns g c = end_written _ _ _ c.loop-i.i _ _ (omega (arith, c.last-i-end.ensures)) c.requires.all c.loop-i.invariant
+returns c s tells =
+    sums_all s c.args.sums.now (64 * c.loop-w.w) c.loop-w.sums (omega (arith, tells.0, c.loop-w-test.false, c.div_ceil-w-end.ensures)) (c.loop-w.invariant.written s tells)

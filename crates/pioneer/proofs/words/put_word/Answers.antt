@@ -2,8 +2,8 @@
 use Rattle.std.proofs.Common.{◌≡◌, ◌*◌, ◌/◌, ◌%◌, ◌^◌, get_or, ap, ◌∙◌, rules}
 use Rattle.std.proofs.lemmas.List.{places}
 use Rattle.bits.proofs.Laid.{byte_of}
-use Rattle.pioneer.proofs.Words.{laid_front}
-use Rattle.pioneer.proofs.unpack.put_word.Goals as goal
+use Rattle.pioneer.proofs.Stretches.{laid_front}
+use Rattle.pioneer.proofs.words.put_word.Goals as goal
 
 pub returns-then-n-ge8-clause-front : goal.returns-then-n-ge8-clause-front
 returns-then-n-ge8-clause-front c f held front =
