@@ -1,12 +1,12 @@
 -- What a number that holds some bits tells of them: how many pass a test, the first, the last and the k-th that does.
-use Rattle.std.proofs.Common.{◌≡◌, ℕ, zero, suc, ◌+◌, ◌-◌, ◌*◌, ◌/◌, ◌%◌, ◌^◌, ◌<◌, ◌≤◌, Bool, true, false, not, eqb, leb, Some, None, sym, ap, ◌∙◌, subst, inr, ⊎_elim, lt_of_lt_of_le, add-zero, add-suc, mod-lt, mod-eq_of_lt, pow-suc, lt_of_not-le, arith, pow_pos, pow_mono, shr-shr}
+use Rattle.std.proofs.Common.{◌≡◌, ℕ, zero, suc, ◌+◌, ◌-◌, ◌*◌, ◌/◌, ◌%◌, ◌^◌, ◌<◌, ◌≤◌, Bool, true, false, not, eqb, leb, Some, None, Option, sym, refl, ap, ◌∙◌, subst, inr, ⊎_elim, lt_of_lt_of_le, add-zero, add-suc, mod-lt, mod-eq_of_lt, pow-suc, lt_of_not-le, arith, pow_pos, pow_mono, shr-shr}
 use native.Mathlib.Nat.{mod-one, div-eq_of_lt-le}
 use lib.Bits.{bit_and}
 use lib.Count.{ones, count_trailing_zeros, count_leading_zeros, leading_top, trailing_of_zero}
 use lib.Pow.{shr_le}
 use Rattle.std.proofs.lemmas.Bool.{cases_lt, cond_both, cond-false, lt-leb, eq-eqb, ne_eqb, leb-true, leb-false}
-use Rattle.sets.specs.Search.{first_from, count_to, kth_to}
-use Rattle.sets.proofs.Tests.{first_by, count_here, count_on, count_less, kth_by}
+use Rattle.sets.specs.Search.{first_from, last_to, count_to, kth_to}
+use Rattle.sets.proofs.Tests.{FirstIs, LastIs, first_law, first_by, last_law, last_by, count_here, count_on, count_less, kth_by}
 use Rattle.bits.specs.Words.{digit, Holds, at_most}
 use Rattle.bits.proofs.Digits.{ones_of_zero, ones_more, front_mask, high_zero, front_digit, not_digit, trailing_low, trailing_hit, trailing_some}
 
@@ -89,7 +89,7 @@ module _ (f : ℕ → Bool) where
       let same : j ≡ suc (p + (k + s)) = omega arith in
       ap f same ∙ shifted p m x k s h (omega arith) ∙ miss _ (ap (λ (y : ℕ). y / 2 ^ s % 2) e ∙ high_zero 0 0 s (omega arith) (omega arith))
 
-  pub first_past : (p m x k y q : ℕ) → Holds f p m x → y ≡ x / 2 ^ k → 0 < y → q ≡ suc (p + k + count_trailing_zeros m y) → (f q ≡ true) × Without f (p + k) (q - 1)
+  pub first_past : (p m x k y q : ℕ) → Holds f p m x → y ≡ x / 2 ^ k → 0 < y → q ≡ suc (p + k + count_trailing_zeros m y) → (f q ≡ true) × Without f (p + k) (q - 1) × (q ≤ p + m)
   first_past p m x k y q h e some at =
       let t = count_trailing_zeros m y in
       let hit = trailing_hit m y (trailing_some m y some (omega (arith, shr_le x k, h.small))) in
@@ -101,13 +101,8 @@ module _ (f : ℕ → Bool) where
             let s = j - suc (p + k) in
             let at_j : j ≡ suc (p + (k + s)) = omega arith in
             ap f at_j ∙ shifted p m x k s h (omega arith) ∙ miss _ (ap (λ (z : ℕ). z / 2 ^ s % 2) (sym e) ∙ trailing_low m y s (omega arith)),
+        omega arith,
       )
-
-  pub some_in : (p q m x : ℕ) → q ≡ p → Holds f p m x → 0 < x → (i : ℕ) × ((q < i) × (i ≤ q + m) × (f i ≡ true))
-  some_in p q m x same h some =
-      let t = count_trailing_zeros m x in
-      let inside : t < m = trailing_some m x some h.small in
-      (suc (p + t), (omega arith, omega arith, h.place t inside ∙ eq-eqb _ 1 (trailing_hit m x inside)))
 
   pub up_first : (from last q : ℕ) → 1 ≤ from → from ≤ q → f q ≡ true → Without f (from - 1) (q - 1) → at_most last q ≡ first_from f from (suc last - from)
   up_first from last q one low hit none =
@@ -116,19 +111,32 @@ module _ (f : ℕ → Bool) where
       first_by f from _ (Some q) (low, omega arith, hit, λ j a b. none j (omega arith) (omega arith)))
       (λ e. let high = leb-false q last e in first_by f from _ None (λ j a b. none j (omega arith) (omega arith)))
 
-  -- behind places of which none passes; where x has no one, none is left
-  pub up_word : (from last w x : ℕ) → 1 ≤ from → from ≤ 64 * w → Holds f (64 * w) 64 x → Without f (from - 1) (64 * w) → (x ≡ 0 → last ≤ 64 * w + 64)
-      → at_most last (64 * w + 1 + count_trailing_zeros 64 x) ≡ first_from f from (suc last - from)
-  up_word from last w x one start held none left = ⊎_elim
+  -- among those of x from the k-th on
+  pub up_rest : (from last p k x : ℕ) → from ≡ suc (p + k) → last ≤ p + 64 → Holds f p 64 x → at_most last (from + count_trailing_zeros 64 (x / 2 ^ k)) ≡ first_from f from (suc last - from)
+  up_rest from last p k x at near held = ⊎_elim
       (λ zero.
-      let e : x ≡ 0 = omega arith in
-      let past : last < 64 * w + 1 + count_trailing_zeros 64 x = omega (arith, left e, ap (count_trailing_zeros 64) e, trailing_of_zero 64) in
-      cond-false _ _ _ (lt-leb _ last past)
-      ∙ first_by f from _ None (λ j l h. ⊎_elim (λ more. none_past (64 * w) 64 x 0 held (omega arith) j (omega arith) (omega (arith, left e))) (λ less. none j (omega arith) less) (cases_lt (64 * w) j)))
+      let e : x / 2 ^ k ≡ 0 = omega arith in
+      let past : last < from + count_trailing_zeros 64 (x / 2 ^ k) = omega (arith, ap (count_trailing_zeros 64) e, trailing_of_zero 64) in
+      cond-false _ _ _ (lt-leb _ last past) ∙ first_by f from _ None (λ j l h. none_past p 64 x k held e j (omega arith) (omega arith)))
       (λ some.
-      let first = first_past (64 * w) 64 x 0 x (64 * w + 1 + count_trailing_zeros 64 x) held (omega arith) some (omega arith) in
-      up_first from last _ one (omega arith) first.0 (joined (from - 1) (64 * w) _ none (λ j a b. first.1 j (omega arith) b)))
-      (cases_lt x 1)
+      let first = first_past p 64 x k (x / 2 ^ k) (from + count_trailing_zeros 64 (x / 2 ^ k)) held refl some (omega arith) in
+      up_first from last _ (omega arith) (omega arith) first.0 (λ j a b. first.1 j (omega arith) b))
+      (cases_lt (x / 2 ^ k) 1)
+
+  -- from a later one on, where none between passes
+  pub first_later : (from start last : ℕ) → 1 ≤ from → from ≤ start → Without f (from - 1) (start - 1) → first_from f start (suc last - start) ≡ first_from f from (suc last - from)
+  first_later from start last one later none = first_by f from _ _ (found (first_from f start (suc last - start)) (first_law f start (suc last - start)))
+    where
+      found : (r : Option ℕ) → FirstIs f start (suc last - start) r → FirstIs f from (suc last - from) r
+      found None h = λ j l b. ⊎_elim (λ less. none j (omega arith) (omega arith)) (λ more. h j more (omega arith)) (cases_lt j start)
+      found (Some i) h = (omega arith, omega arith, h.2, λ j l b. ⊎_elim (λ less. none j (omega arith) (omega arith)) (λ more. h.3 j more b) (cases_lt j start))
+
+  pub last_earlier : (from end : ℕ) → end ≤ from → Without f end from → last_to f end ≡ last_to f from
+  last_earlier from end earlier none = last_by f from _ (found (last_to f end) (last_law f end))
+    where
+      found : (r : Option ℕ) → LastIs f end r → LastIs f from r
+      found None h = λ j l b. ⊎_elim (λ more. none j more b) (λ within. h j l within) (cases_lt end j)
+      found (Some i) h = (h.0, omega (arith, h.1), h.2, λ j l b. ⊎_elim (λ more. none j more b) (λ within. h.3 j l within) (cases_lt end j))
 
   -- ---- the last
 

@@ -1,5 +1,5 @@
 // The next and the previous bit of a sort.
-ghost use Rattle.std.specs.Prelude.{◌≡◌, ℕ, suc, ◌+◌, ◌-◌, ◌*◌, ◌<◌, ◌≤◌, true, false, length};
+ghost use Rattle.std.specs.Prelude.{◌≡◌, ℕ, suc, ◌+◌, ◌-◌, ◌*◌, ◌/◌, ◌<◌, ◌≤◌, false, length};
 ghost use Rattle.sets.specs.Search.{first_from, last_to};
 ghost use Rattle.bits.specs.Bits.{is_bit};
 ghost use Rattle.bits.specs.Words.{at_most};
@@ -18,46 +18,76 @@ pub(crate) fn at_most(i: u64, last: u32) -> Option<u32>
     }
 }
 
-// The first of the words `from` to `to`, counted from 0 and without the last, with a bit of the sort; or `to`.
-fn word_with_some(bytes: &[u8], sort: Sort, from: u32, to: u32) -> u32
-    requires order { from ≤ to }
-    requires within { 8 * to ≤ length bytes.now }
-    ensures least { from ≤ result }
-    ensures most { result ≤ to }
-    ensures before { (i : ℕ) → 64 * from < i → i ≤ 64 * result → is_bit bytes.now sort i ≡ false }
-    ensures here { result < to → (i : ℕ) × ((64 * result < i) × (i ≤ 64 * result + 64) × (is_bit bytes.now sort i ≡ true)) }
+// The first bit of the sort from `from` to `last`, which lie in one word.
+fn next_in_word(bytes: &[u8], sort: Sort, from: u32, last: u32) -> Option<u32>
+    requires first { 1 ≤ from }
+    requires near { last ≤ 64 * ((from - 1) / 64) + 64 }
+    requires within { from ≤ 8 * length bytes.now + 1 }
+    ensures { result ≡ first_from (is_bit bytes.now sort) from (suc last - from) }
 {
-    for w in from..to {
-        if whole_word_of(bytes, sort, 8 * w as usize) != 0 {
-            return w;
+    let p = from - 1;
+    let v = word(bytes, sort, 8 * (p / 64) as usize) >> (p % 64);
+    at_most(from as u64 + v.trailing_zeros() as u64, last)
+}
+
+// The same, where the word of `from` is that of `last`, or none of its bits from `from` on is of the sort.
+#[inline(never)]
+fn next_behind(bytes: &[u8], sort: Sort, from: u32, last: u32) -> Option<u32>
+    requires first { 1 ≤ from }
+    requires within { last ≤ 8 * length bytes.now }
+    requires none { (from - 1) / 64 < last / 64
+        → (i : ℕ) → from ≤ i → i ≤ 64 * ((from - 1) / 64) + 64 → is_bit bytes.now sort i ≡ false }
+    ensures { result ≡ first_from (is_bit bytes.now sort) from (suc last - from) }
+{
+    let end = last / 64;
+    for w in (from - 1) / 64 + 1..end {
+        let x = whole_word_of(bytes, sort, 8 * w as usize);
+        if x != 0 {
+            return Some(64 * w + 1 + x.trailing_zeros());
         }
     }
-    to
+    let start = from.max(64 * end + 1);
+    if start > last {
+        return None;
+    }
+    next_in_word(bytes, sort, start, last)
 }
 
 /// The first bit of the sort from `from` to `last`.
+#[inline]
 pub fn next(bytes: &[u8], sort: Sort, from: u32, last: u32) -> Option<u32>
     requires first { 1 ≤ from }
     requires within { last ≤ 8 * length bytes.now }
     ensures { result ≡ first_from (is_bit bytes.now sort) from (suc last - from) }
 {
-    if from > last {
-        return None;
+    let p = from - 1;
+    if p / 64 < last / 64 {
+        let v = whole_word_of(bytes, sort, 8 * (p / 64) as usize) >> (p % 64);
+        if v != 0 {
+            return Some(from + v.trailing_zeros());
+        }
     }
-    let (p, end) = (from - 1, last / 64);
-    let v = word(bytes, sort, 8 * (p / 64) as usize) >> (p % 64);
-    if v != 0 {
-        return at_most(from as u64 + v.trailing_zeros() as u64, last);
+    next_behind(bytes, sort, from, last)
+}
+
+// The last bit of the sort in the first `words` words.
+#[inline(never)]
+fn previous_in_words(bytes: &[u8], sort: Sort, words: u32) -> Option<u32>
+    requires within { 8 * words ≤ length bytes.now }
+    requires small { 64 * words < 4294967296 }
+    ensures { result ≡ last_to (is_bit bytes.now sort) (64 * words) }
+{
+    for w in (0..words).rev() {
+        let x = whole_word_of(bytes, sort, 8 * w as usize);
+        if x != 0 {
+            return Some(64 * w + (64 - x.leading_zeros()));
+        }
     }
-    if p / 64 == end {
-        return None;
-    }
-    let w = word_with_some(bytes, sort, p / 64 + 1, end);
-    let x = word(bytes, sort, 8 * w as usize);
-    at_most(64 * w as u64 + 1 + x.trailing_zeros() as u64, last)
+    None
 }
 
 /// The last bit of the sort from 1 to `from`.
+#[inline]
 pub fn previous(bytes: &[u8], sort: Sort, from: u32) -> Option<u32>
     requires within { from ≤ 8 * length bytes.now }
     ensures { result ≡ last_to (is_bit bytes.now sort) from }
@@ -67,11 +97,5 @@ pub fn previous(bytes: &[u8], sort: Sort, from: u32) -> Option<u32>
     if v != 0 {
         return Some(64 * (p / 64) + (64 - v.leading_zeros()));
     }
-    for w in (0..p / 64).rev() {
-        let x = whole_word_of(bytes, sort, 8 * w as usize);
-        if x != 0 {
-            return Some(64 * w + (64 - x.leading_zeros()));
-        }
-    }
-    None
+    previous_in_words(bytes, sort, p / 64)
 }

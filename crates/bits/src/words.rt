@@ -26,6 +26,8 @@ pub(crate) fn whole_word(bytes: &[u8], j: usize) -> u64
 }
 
 // The 64 bits from byte `j` on, where at most 8 bytes are left: the bits past the last byte are 0.
+#[cold]
+#[inline(never)]
 pub(crate) fn last_word(bytes: &[u8], j: usize) -> u64
     requires within { j ≤ length bytes.now }
     requires short { length bytes.now ≤ j + 8 }

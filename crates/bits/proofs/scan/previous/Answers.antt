@@ -3,7 +3,7 @@ use Rattle.std.proofs.Common.{ℕ, ◌+◌, ◌-◌, ◌*◌, ◌/◌, ◌%◌, 
 use Rattle.std.specs.Int.Count.{count_leading_zeros}
 use Rattle.sets.proofs.Tests.{last_by}
 use Rattle.bits.specs.Words.{Holds}
-use Rattle.bits.proofs.Held.{joined, front_held, none_past, last_in_lem}
+use Rattle.bits.proofs.Held.{front_held, none_past, last_in_lem, last_earlier}
 use Rattle.bits.proofs.scan.previous.Goals as goal
 
 pub returns-in_err-p : goal.returns-in_err-p
@@ -33,19 +33,8 @@ returns-then-v-ne0 c =
     let l = last_in_lem _ _ 64 _ _ q (held _ c.in_ok-p.p _ c.word.ensures) (omega arith) (search rules) (omega arith) in
     last_by _ _ _ (l.0, omega (arith, l.1), l.2, λ j a b. l.3 j a (omega arith))
 
-pub loop-w-init : goal.loop-w-init
-loop-w-init c = (omega arith, λ j a b. none_past _ _ _ _ 0 (held _ c.in_ok-p.p _ c.word.ensures) (omega arith) j (omega arith) (omega arith))
-
-pub returns-then-x-ne0 : goal.returns-then-x-ne0
-returns-then-x-ne0 c =
-    let q = place (c.loop-w.w - 1) c.whole_word_of-x.result in
-    let l = last_in_lem _ _ 64 _ _ q c.whole_word_of-x.ensures (omega arith) (search rules) (omega arith) in
-    last_by _ _ _ (l.0, omega (arith, l.1), l.2, joined _ _ (64 * c.loop-w.w) _ (λ j a b. l.3 j a (omega arith)) c.loop-w.invariant.1)
-
-pub loop-w-preserved : goal.loop-w-preserved
-loop-w-preserved c =
-    let none = none_past _ _ _ _ 0 c.whole_word_of-x.ensures (omega arith) in
-    (omega arith, joined _ _ (64 * c.loop-w.w) _ (λ j a b. none j (omega arith) (omega arith)) c.loop-w.invariant.1)
-
 pub returns : goal.returns
-returns c = last_by _ _ None (λ j l h. c.loop-w.invariant.1 j (omega arith) h)
+returns c =
+    let p = c.in_ok-p.p in
+    let none = none_past _ _ _ _ 0 (held _ p _ c.word.ensures) (omega arith) in
+    c.previous_in_words.ensures ∙ last_earlier _ c.args.from (64 * (p / 64)) (omega arith) (λ j a b. none j (omega arith) (omega arith))
