@@ -1,7 +1,7 @@
 -- A bitvector at the front of a memory: of which no bit is 1, and of which one more is.
 use Rattle.std.proofs.Common.{◌≡◌, ℕ, suc, ◌+◌, ◌-◌, ◌*◌, ◌/◌, ◌%◌, ◌^◌, ◌<◌, ◌≤◌, Bool, false, ◌&&◌, ◌||◌, eqb, leb, List, ◌++◌, length, get_or, set, take, drop, replicate, length-take, sym, refl, ap, ◌∙◌, ⊎_elim, arith, mod-lt, bit_or}
 use Rattle.std.proofs.lemmas.Bool.{cases_Bool, cases_eq, le-leb, eqb-true, ne_eqb, and_from, and_right, or_left}
-use Rattle.std.proofs.lemmas.List.{ext_get_or, get_or-replicate, length-replicate, length-set, get_or-set_same, get_or-set_other, get_or_append_left, set-append_left}
+use Rattle.std.proofs.lemmas.List.{append-nil, drop_all, ext_get_or, get_or-replicate, length-replicate, length-set, get_or-set_same, get_or-set_other, get_or_append_left, set-append_left}
 use Rattle.sets.specs.Lists.{over}
 use Rattle.sets.specs.Packing.{bytes_for, value_of, pack}
 use Rattle.bits.proofs.Values.{value_holds, value_only, held_same, value_same, none_held, or_held}
@@ -80,3 +80,19 @@ module _ (n : ℕ) (f : ℕ → Bool) (i : ℕ) (one : 1 ≤ i) (last : i ≤ n)
       ∙ set-append_left (pack n f) rest k _ within
       ∙ ap (λ front. front ++ rest) pack_put
       ∙ ap (λ m. pack n more ++ drop m old) (pack_length n f ∙ sym (pack_length n more))
+
+-- ---- a whole memory of bits
+
+module _ (memory : List ℕ) where
+  -- nothing lies behind them
+  pub over_whole : (f : ℕ → Bool) → over (pack (8 * length memory) f) memory ≡ pack (8 * length memory) f
+  over_whole f =
+      let none = drop_all (length (pack (8 * length memory) f)) memory (omega (arith, pack_length (8 * length memory) f)) in
+      ap (λ rest. pack (8 * length memory) f ++ rest) none ∙ append-nil _
+
+  -- of which none is 1
+  pub zeros_whole : (zeros : List ℕ) → zeros ≡ replicate (length memory) 0 → zeros ≡ over (pack (8 * length memory) (λ i. false)) memory
+  zeros_whole zeros e =
+      let all = length-take (length memory) memory in
+      sym (append-nil zeros) ∙ ap (λ rest. zeros ++ rest) (sym (drop_all (length memory) memory (omega arith)))
+      ∙ over_none (8 * length memory) (length memory) zeros memory (omega arith) (omega arith) (e ∙ ap (λ (m : ℕ). replicate m 0) (omega (arith, all)))

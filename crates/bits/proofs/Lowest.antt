@@ -39,7 +39,7 @@ module _ (w c : ℕ) where
     pub inside : t < 64
     inside = trailing_some 64 left some below
 
-    past : c ≤ t
+    pub past : c ≤ t
     past = ⊎_elim
         (λ less.
         let zero : left + 0 ≡ left = add-zero left in
@@ -48,7 +48,7 @@ module _ (w c : ℕ) where
         (λ more. more)
         (cases_lt t c)
 
-    same : (m : ℕ) → c ≤ m → left / 2 ^ m ≡ w / 2 ^ m
+    pub same : (m : ℕ) → c ≤ m → left / 2 ^ m ≡ w / 2 ^ m
     same m l =
         let e : c + (m - c) ≡ m = omega arith in
         ap (λ (y : ℕ). left / 2 ^ y) (sym e) ∙ sym (shr-shr left c (m - c)) ∙ ap (λ (y : ℕ). y / 2 ^ (m - c)) (shl-shr (w / 2 ^ c) c) ∙ shr-shr w c (m - c)

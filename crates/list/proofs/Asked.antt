@@ -1,5 +1,5 @@
 -- The next and the previous bay of a sort are found by rank and select.
-use Rattle.std.proofs.Common.{◌≡◌, ℕ, suc, ◌+◌, ◌-◌, ◌≤◌, Bool, List, length, sym, ap, ◌∙◌, ⊎_elim, arith}
+use Rattle.std.proofs.Common.{◌≡◌, ℕ, suc, ◌+◌, ◌-◌, ◌≤◌, min, max, Bool, List, length, sym, ap, ◌∙◌, ⊎_elim, arith}
 use Rattle.std.proofs.lemmas.Bool.{cases_lt}
 use Rattle.sets.specs.declared.Sort.{Sort}
 use Rattle.sets.specs.Sets.{is, next_of, previous_of, rank_of, select_of}
@@ -37,4 +37,25 @@ module _ (s : List Bool) (k : Sort) where
       (λ past.
       previous_beyond s k i (omega arith) ∙ previous_inside (length s) (omega arith) ∙ ap (select_of s k) (sym (rank_beyond s k i (omega arith))))
       (λ within. previous_inside i within)
+      (cases_lt (length s) i)
+
+  -- 0 is read as 1
+  pub next_from_one : (i : ℕ) → next_of s k (max i 1) ≡ next_of s k i
+  next_from_one i =
+      ⊎_elim
+      (λ none.
+      let one : max i 1 ≡ 1 = omega arith in
+      let zero' : i ≡ 0 = omega arith in
+      ap (next_of s k) one ∙ sym (next_zero s k) ∙ ap (next_of s k) (sym zero'))
+      (λ some. let same : max i 1 ≡ i = omega arith in ap (next_of s k) same)
+      (cases_lt i 1)
+
+  -- beyond the last bay is read as the last
+  pub previous_to_last : (u i : ℕ) → length s ≡ u → previous_of s k (min i u) ≡ previous_of s k i
+  previous_to_last u i e =
+      ⊎_elim
+      (λ past.
+      let last : min i u ≡ length s = omega (arith, e) in
+      ap (previous_of s k) last ∙ sym (previous_beyond s k i (omega arith)))
+      (λ within. let same : min i u ≡ i = omega (arith, e) in ap (previous_of s k) same)
       (cases_lt (length s) i)

@@ -2,8 +2,12 @@
 pub mod Lawful
 pub mod Members
 pub mod Places
+pub mod Ends
+pub mod Put
+pub mod Parted
 pub mod Asked
 pub mod Selected
+pub mod Apart
 pub mod Holding
 pub mod Walked
 pub mod Listed

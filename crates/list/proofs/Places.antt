@@ -1,17 +1,11 @@
 -- Where a rising list is cut by a number, and how many members there are up to a bay.
-use Rattle.std.proofs.Common.{◌≡◌, ℕ, zero, suc, ◌-◌, ◌<◌, ◌≤◌, false, List, length, get_or, ap, ◌∙◌, ⊎_elim, arith}
-use Rattle.std.specs.List.Sorted.{IsNonDecreasing}
+use Rattle.std.proofs.Common.{◌≡◌, ℕ, zero, suc, ◌+◌, ◌-◌, ◌<◌, ◌≤◌, false, List, length, get_or, ap, ◌∙◌, ⊎_elim, arith}
 use Rattle.std.proofs.lemmas.Bool.{cases_lt}
-use Rattle.std.proofs.lemmas.List.Sorted.{IsNonDecreasingBy-from_default}
 use Rattle.sets.specs.Search.{count_to}
 use Rattle.sets.proofs.Tests.{count_none, count_at, count_le, count_without}
 use Rattle.list.specs.Decoding.{is_among}
-use Rattle.list.specs.Places.{Inside, Climbs}
+use Rattle.list.specs.Places.{Inside, Climbs, Cut}
 use Rattle.list.proofs.Members.{among_at, not_among}
-
--- the numbers before place k are at most i, and those from k on are above it
-abbrev pub Cut : List ℕ → ℕ → ℕ → Type 0
-Cut ns i k = (k ≤ length ns) × ((j : ℕ) → j < k → get_or ns j 0 ≤ i) × ((j : ℕ) → k ≤ j → j < length ns → i < get_or ns j 0)
 
 -- the number is not in the list, and place k is where it would stand
 abbrev pub Between : List ℕ → ℕ → ℕ → Type 0
@@ -29,8 +23,14 @@ module _ (ns : List ℕ) (up : Climbs ns) where
       (λ same. let e : i ≡ j = omega arith in omega (arith, ap (λ (k : ℕ). get_or ns k 0) e))
       (cases_lt i j)
 
-  pub sorted : IsNonDecreasing ns
-  sorted = IsNonDecreasingBy-from_default (λ x. x) ns 0 grows
+  -- of the bays between two numbers there is one for each place between them, at least
+  pub spread : (i j : ℕ) → i ≤ j → j < length ns → get_or ns i 0 + (j - i) ≤ get_or ns j 0
+  spread i zero l h = let e : i ≡ zero = omega arith in omega (arith, ap (λ (k : ℕ). get_or ns k 0) e)
+  spread i (suc j) l h =
+      ⊎_elim
+      (λ less. omega (arith, spread i j (omega arith) (omega arith), up j (suc j) (omega arith, h)))
+      (λ same. let e : i ≡ suc j = omega arith in omega (arith, ap (λ (k : ℕ). get_or ns k 0) e))
+      (cases_lt i (suc j))
 
   -- the two numbers beside a place tell
   pub between : (i k : ℕ) → k ≤ length ns → (0 < k → get_or ns (k - 1) 0 < i) → (k < length ns → i < get_or ns k 0) → Between ns i k

@@ -1,5 +1,6 @@
 -- The definitions of this crate.
 pub mod Places
+pub mod Parting
 pub mod Decoding
 pub mod Lawful
 pub mod Opening

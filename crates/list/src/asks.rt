@@ -3,6 +3,7 @@ ghost use Rattle.list.specs.Decoding.{is_among, set_of};
 ghost use Rattle.sets.specs.Made.{made_sized};
 
 use super::index::List;
+use super::putting::put_numbers;
 use sets::{Counting, Sort, Walking};
 
 impl<'a> Walking for List<'a> {
@@ -15,17 +16,26 @@ impl<'a> Walking for List<'a> {
     }
 
     fn holds(&self, i: u32) -> bool {
-        self.numbers
-            .binary_search_by_key(&i, |number| *number as u32)
-            .is_ok()
+        self.ends(self.members_to(i), i)
     }
 
     fn next(&self, sort: Sort, i: u32) -> Option<u32> {
-        self.select(sort, self.rank(sort, i.saturating_sub(1)) + 1)
+        match sort {
+            Sort::Members => self.select(sort, self.rank(sort, i.saturating_sub(1)) + 1),
+            Sort::Others => self.next_other(i.max(1)),
+        }
     }
 
     fn previous(&self, sort: Sort, i: u32) -> Option<u32> {
-        self.select(sort, self.rank(sort, i))
+        match sort {
+            Sort::Members => self.select(sort, self.rank(sort, i)),
+            Sort::Others => self.previous_other(i.min(self.last)),
+        }
+    }
+
+    fn bits(&self, before: u32, out: &mut [u8]) {
+        let first = self.members_to(before) as usize;
+        put_numbers(&self.numbers[first..], before, out);
     }
 }
 
@@ -42,10 +52,7 @@ impl<'a> Counting for List<'a> {
                 .numbers
                 .get(place as usize)
                 .map(|number| *number as u32),
-            Sort::Others => {
-                let bay = n.checked_add(self.members_before(n))?;
-                (bay <= self.last).then_some(bay)
-            }
+            Sort::Others => self.nth_other(n),
         }
     }
 }

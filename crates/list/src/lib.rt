@@ -6,11 +6,15 @@ ghost use Rattle.list.specs.Filling.{list_layout};
 ghost use Rattle.list.specs.Refilling.{PartsTell, RefillsReturn};
 
 mod asks;
+mod beside;
 mod check;
 mod fill;
 mod index;
 mod measuring;
 mod open;
+mod others;
+mod putting;
+mod quarters;
 mod rank;
 mod select;
 mod slip;

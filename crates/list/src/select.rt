@@ -1,10 +1,12 @@
-// How many members there are before the n-th of the others, by halving the list.
+// The n-th of the others, and how many members there are before it, by parting the list.
 ghost use Rattle.std.specs.Prelude.{◌≡◌, ◌+◌, ◌≤◌, false, length};
 ghost use Rattle.sets.specs.Search.{count_to};
-ghost use Rattle.list.specs.Decoding.{is_among};
+ghost use Rattle.sets.specs.Sets.{select_of};
+ghost use Rattle.sets.specs.declared.Sort.TheVariants.{Others};
+ghost use Rattle.list.specs.Decoding.{is_among, set_of};
 
 use super::index::List;
-use sets::partition_point;
+use super::quarters::parting;
 
 impl<'a> List<'a> {
     // How many members lie before the `n`-th of the others, as if there were bays without end. The number at `place`, from 0,
@@ -14,8 +16,19 @@ impl<'a> List<'a> {
         ensures other { is_among self.now.numbers.now (n + result) ≡ false }
         ensures bound { result ≤ length self.now.numbers.now }
     {
-        partition_point(0, self.numbers.len() as u32, |place| {
-            self.numbers[place as usize] as u32 - (place + 1) < n
-        })
+        parting(self.numbers.len(), |place| {
+            self.numbers[place] as u32 - (place as u32 + 1) < n
+        }) as u32
+    }
+
+    // The `n`-th of the others; none at 0 and beyond their number.
+    pub(crate) fn nth_other(&self, n: u32) -> Option<u32>
+        ensures { result ≡ select_of (set_of self.now.last self.now.numbers.now) Others n }
+    {
+        if n == 0 {
+            return None;
+        }
+        let bay = n.checked_add(self.members_before(n))?;
+        (bay <= self.last).then_some(bay)
     }
 }

@@ -1,30 +1,28 @@
 -- What is left to show of `check_rising`.
-use Rattle.std.proofs.Common.{◌≡◌, ◌≤◌, get_or, false, sym, ◌∙◌, rules, Err}
-use Rattle.faults.specs.declared.fault.Flaw.TheVariants.{Content}
-use Rattle.std.proofs.lemmas.Bool.{cond-true, cond-false, both_ways}
-use Rattle.list.specs.Lawful.{RisesWithin, rises, list_check}
-use Rattle.list.proofs.Lawful.{lawful_if, rises_if, rises_on, rises_not, rises_to_end}
+use Rattle.std.proofs.Common.{refl, sym}
+use Rattle.list.specs.Lawful.{RisesWithin}
+use Rattle.list.proofs.Lawful.{within, steps_of, ends_of, taken_if, refused_if}
 use Rattle.list.proofs.check.check_rising.Goals as goal
+use Rattle.list.proofs.check.check_rising.Goals.{else-ends_within-via-then-ends_within+else-steps, else-ends_within-via-else-ends_within}
 
--- the number at hand is not the next of the list
-refused : (c : goal.After-from_residual) → rises c.args.last 1 c.args.numbers.now ≡ false
-refused c =
-    sym c.loop-number.invariant
-    ∙ rises_not c.args.last c.loop-number.least c.args.numbers.now c.loop-number.number-index c.loop-number-test.true (search rules)
+lawful : (c : goal.Then-steps) → RisesWithin c.args.last c.args.numbers.now
+lawful c = within c.args.last c.args.numbers.now (c.ends_within.ensures.yes c.if-ends_within.true) (c.steps.ensures.yes c.if-steps.true)
 
-pub returns-in_err-check_range : goal.returns-in_err-check_range
-returns-in_err-check_range c =
-    let e : list_check c.args.last c.args.numbers.now ≡ Err Content = cond-false _ _ _ (refused c) in
-    let no = λ (h : RisesWithin c.args.last c.args.numbers.now). both_ways _ (refused c) (rises_if c.args.last 1 c.args.numbers.now h.0 h.1) in
-    record { answer = search rules; law = search rules }
+unlawful : (c : goal.Joined-else-ends_within) → RisesWithin c.args.last c.args.numbers.now → ⊥
+unlawful c h =
+    elim c.else-ends_within.branch [
+      | else-ends_within-via-then-ends_within+else-steps w ↦ w.steps.ensures.no w.if-steps.false (steps_of c.args.last c.args.numbers.now h)
+      | else-ends_within-via-else-ends_within w ↦ c.ends_within.ensures.no w.if-ends_within.false (ends_of c.args.last c.args.numbers.now h)
+    ]
 
-pub loop-number-preserved : goal.loop-number-preserved
-loop-number-preserved c =
-    let n = get_or c.args.numbers.now c.loop-number.number-index 0 in
-    let h : (c.loop-number.least ≤ n) × (n ≤ c.args.last) = search rules in
-    sym (rises_on c.args.last _ c.args.numbers.now _ c.loop-number-test.true h.0 h.1) ∙ c.loop-number.invariant
+pub returns-then-steps-clause-answer : goal.returns-then-steps-clause-answer
+returns-then-steps-clause-answer c = sym (taken_if c.args.last c.args.numbers.now (lawful c))
 
-pub returns : goal.returns
-returns c =
-    let e = sym c.loop-number.invariant ∙ rises_to_end c.args.last _ c.args.numbers.now _ c.loop-number-test.false in
-    record { answer = sym (cond-true _ _ _ e); law = lawful_if c.args.last 1 c.args.numbers.now e }
+pub returns-then-steps-clause-law : goal.returns-then-steps-clause-law
+returns-then-steps-clause-law c = lawful c
+
+pub returns-else-ends_within-clause-answer : goal.returns-else-ends_within-clause-answer
+returns-else-ends_within-clause-answer c = sym (refused_if c.args.last c.args.numbers.now (unlawful c))
+
+pub returns-else-ends_within-clause-law : goal.returns-else-ends_within-clause-law
+returns-else-ends_within-clause-law c = (refl, unlawful c)

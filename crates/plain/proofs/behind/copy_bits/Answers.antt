@@ -1,6 +1,7 @@
 -- What is left to show of `copy_bits`.
 use Rattle.std.proofs.Common.{◌*◌, false, length, ◌∙◌, arith}
-use Rattle.plain.proofs.Shifted.{over_whole, zeros_whole, all_moved}
+use Rattle.bits.proofs.Fronts.{over_whole, zeros_whole}
+use Rattle.plain.proofs.Shifted.{all_moved}
 use Rattle.plain.proofs.behind.copy_bits.Goals as goal
 
 pub returns : goal.returns
