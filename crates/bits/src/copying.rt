@@ -7,7 +7,7 @@ ghost use Rattle.bits.specs.Rows.{moved};
 ghost use Rattle.bits.specs.Words.{Adds};
 
 use super::laying::{lay, lay_whole};
-use super::words::{across, after};
+use super::unaligned::{across, after};
 
 // Adds the ones among the `n` bits of `from` after its first `q` to the bits after the first `p`.
 fn copy_few(bytes: &mut [u8], p: usize, from: &[u8], q: usize, n: usize)

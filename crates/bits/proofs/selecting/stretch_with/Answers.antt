@@ -4,7 +4,7 @@ use Rattle.sets.specs.Search.{count_to}
 use Rattle.sets.proofs.Tests.{count_none}
 use Rattle.bits.specs.Bits.{bit_at, is_bit}
 use Rattle.bits.proofs.Sorts.{share_more}
-use Rattle.bits.proofs.count.stretch_with.Goals as goal
+use Rattle.bits.proofs.selecting.stretch_with.Goals as goal
 
 pub loop-s-init : goal.loop-s-init
 loop-s-init c = (omega arith, omega (arith, count_none (is_bit c.args.bytes.now c.args.sort)))

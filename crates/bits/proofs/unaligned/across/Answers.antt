@@ -4,7 +4,7 @@ use Rattle.bits.specs.Bits.{bit_at}
 use Rattle.bits.specs.Words.{Holds}
 use Rattle.bits.proofs.Bytes.{byte_held}
 use Rattle.bits.proofs.Moved.{across_held}
-use Rattle.bits.proofs.words.across.Goals as goal
+use Rattle.bits.proofs.unaligned.across.Goals as goal
 
 pub returns : goal.returns
 returns c =

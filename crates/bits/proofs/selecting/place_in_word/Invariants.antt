@@ -2,7 +2,7 @@
 use Rattle.std.proofs.Common.{◌≡◌, ℕ, ◌+◌, ◌%◌, ◌^◌}
 use lib.Count.{ones}
 use Rattle.bits.proofs.Lowest.{left}
-use Rattle.bits.proofs.count.place_in_word.Given as goal
+use Rattle.bits.proofs.selecting.place_in_word.Given as goal
 
 abbrev pub invariant-loop : goal.invariant-loop
 invariant-loop l = (c : ℕ) × ((l.left ≡ left l.w c) × (ones (l.w % 2 ^ c) + 1 ≡ l.counter))

@@ -3,7 +3,7 @@ use Rattle.std.proofs.Common.{◌≡◌, ◌+◌, ◌*◌, ap, arith}
 use Rattle.sets.specs.Search.{count_to}
 use Rattle.bits.specs.Bits.{is_bit}
 use Rattle.bits.proofs.Held.{count_word}
-use Rattle.bits.proofs.count.word_with.Goals as goal
+use Rattle.bits.proofs.selecting.word_with.Goals as goal
 
 pub returns-then-left-n-clause-here : goal.returns-then-left-n-clause-here
 returns-then-left-n-clause-here c inside = omega (arith, count_word _ c.loop-w.w _ c.whole_word_of-n.ensures)

@@ -4,7 +4,7 @@ use Rattle.bits.specs.Bits.{bit_at}
 use Rattle.bits.specs.Words.{Holds}
 use Rattle.bits.proofs.Bytes.{bit_past}
 use Rattle.bits.proofs.Moved.{past_held}
-use Rattle.bits.proofs.words.after.Goals as goal
+use Rattle.bits.proofs.unaligned.after.Goals as goal
 
 pub returns-then-bytes-j-gt8 : goal.returns-then-bytes-j-gt8
 returns-then-bytes-j-gt8 c =

@@ -2,7 +2,7 @@
 use Rattle.std.proofs.Common.{suc, arith}
 use lib.Count.{count_trailing_zeros}
 use Rattle.bits.proofs.Lowest.{nth_left}
-use Rattle.bits.proofs.count.place_in_word.Goals as goal
+use Rattle.bits.proofs.selecting.place_in_word.Goals as goal
 
 pub loop-preserved : goal.loop-preserved
 loop-preserved c =

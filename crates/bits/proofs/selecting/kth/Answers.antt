@@ -5,7 +5,7 @@ use Rattle.sets.specs.Search.{count_to}
 use Rattle.sets.proofs.Tests.{count_mono, kth_by}
 use Rattle.bits.specs.Bits.{is_bit}
 use Rattle.bits.proofs.Held.{count_word, kth_in, up_kth}
-use Rattle.bits.proofs.count.kth.Goals as goal
+use Rattle.bits.proofs.selecting.kth.Goals as goal
 
 pub returns-then-k-eq0 : goal.returns-then-k-eq0
 returns-then-k-eq0 c = kth_by _ _ _ None (inl c.if-k-eq0.true)
