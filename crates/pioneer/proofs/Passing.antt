@@ -119,7 +119,7 @@ module _ {u n : ℕ} {P L : ℕ → Bool} {start sum behind at end : ℕ} (passe
   pub reaches : u + 1 < at + (end - sum) → Lawful u n P L → ⊥
   reaches high law = omega (arith, (each_fits u n P L law (count_to P at) is_run).1, behind_at)
 
-  passed_end : behind < at → at + (end - sum) ≤ u + 1 → Passed u n P L at end (at + (end - sum))
+  pub passed_end : behind < at → at + (end - sum) ≤ u + 1 → Passed u n P L at end (at + (end - sum))
   passed_end low high = record {
     within = more.within;
     most = more.most;
@@ -137,9 +137,3 @@ module _ {u n : ℕ} {P L : ℕ → Bool} {start sum behind at end : ℕ} (passe
         (omega (arith, starts_at, behind_before), omega (arith, behind_at)))
         (cases_lt r (count_to P at));
   }
-
-  pub passed_more : behind < at → at + (end - sum) ≤ u + 1 → Passed u n P L at (sum + (end - sum)) (at + (end - sum))
-  passed_more low high =
-      let m = more in
-      let e : end ≡ sum + (end - sum) = omega arith in
-      subst (λ to. Passed u n P L at to (at + (end - sum))) e (passed_end low high)

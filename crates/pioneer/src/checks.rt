@@ -7,7 +7,6 @@ ghost use Rattle.pioneer.specs.Opening.{runs_check};
 ghost use Rattle.pioneer.specs.Runs.{Lawful};
 
 use super::ones::Ones;
-use super::run::Run;
 use faults::Flaw;
 
 // Checks run by run that the rows make an index.
@@ -25,24 +24,15 @@ pub(crate) fn check_runs(starts: &[u8], sums: &[u8], last: u32, count: u32) -> R
         return Err(Flaw::Unlawful);
     }
     let (mut firsts, mut ends) = (Ones::after(starts, 0), Ones::after(sums, 0));
-    // Before the first run stands an empty one, which ends before bay 1.
-    let mut run = Run {
-        start: 0,
-        before: 0,
-        length: 0,
-    };
+    // How many members the runs so far have, and the first bay behind them.
+    let (mut before, mut behind) = (0, 0);
     while let Some(start) = firsts.next() {
-        let before = run.before + run.length;
         let sum = ends.next().ok_or(Flaw::Unlawful)?;
-        let next = Run {
-            start,
-            before,
-            length: sum - before,
-        };
-        if next.start <= run.behind() || next.behind() > last + 1 {
+        let to = start + (sum - before);
+        if start <= behind || to > last + 1 {
             return Err(Flaw::Unlawful);
         }
-        run = next;
+        (before, behind) = (sum, to);
     }
     match ends.next() {
         Some(_) => Err(Flaw::Unlawful),
