@@ -30,5 +30,5 @@ pub use scan::{next, previous};
 pub use selecting::kth;
 pub use unaligned::row;
 pub use whole::{cut, turn};
-pub use words::get;
+pub use words::{get, whole_word};
 pub use writing::{clear, put, write};

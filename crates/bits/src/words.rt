@@ -16,8 +16,8 @@ pub fn get(bytes: &[u8], i: u32) -> bool
     (bytes[(p / 8) as usize] >> (p % 8)) % 2 == 1
 }
 
-// The 64 bits from byte `j` on.
-pub(crate) fn whole_word(bytes: &[u8], j: usize) -> u64
+/// The 64 bits from byte `j` on, the first of them as the lowest.
+pub fn whole_word(bytes: &[u8], j: usize) -> u64
     requires within { j + 8 ≤ length bytes.now }
     ensures { Holds (bit_at bytes.now) (8 * j) 64 result }
 {
