@@ -8,3 +8,5 @@ pub mod Sheeting
 pub mod Taking
 pub mod Rounds
 pub mod Asking
+pub mod Bay
+pub mod Striding

@@ -1,9 +1,10 @@
--- A call of next, in the words of the sets of a round that stood before.
-use Rattle.std.proofs.Common.{◌≡◌, ◌∙◌}
+-- A call of next, and a sheet, in the words of the sets of a round that stood before.
+use Rattle.std.proofs.Common.{◌≡◌, ℕ, ◌∙◌}
 use Rattle.round.specs.declared.state.Round.{Round}
 use Rattle.round.specs.declared.state.Taken.{Taken}
 use Rattle.round.specs.Machine.{next_from}
-use Rattle.round.specs.Rounds.{free_of, class_of, walk_of, SameSets}
+use Rattle.round.specs.Rounds.{free_of, class_of, walk_of, page_of, SameSets}
+use Rattle.round.specs.Sheets.{sheet_from}
 use Rattle.round.specs.States.{after_next}
 
 -- `here` has the sets of r, and a next gave t and left it as `on`
@@ -18,3 +19,7 @@ next_on {x = x} {y = y} r here on t same step state sets = record {
   state = state ∙ (λ i. after_next (x.meant (same.0 i)) (y.meant (same.1 i)) here.state);
   sets = (sets.0 ∙ same.0, sets.1 ∙ same.1);
 }
+
+-- a sheet of a round that has the sets of r
+pub page_on : {X Y : Type 0} {x : _} {y : _} (r here : Round X Y x y) (k : ℕ) → SameSets r here → page_of here k ≡ sheet_from (free_of r) (class_of r) k here.state.place
+page_on {x = x} {y = y} r here k same = λ i. sheet_from (x.meant (same.0 i)) (y.meant (same.1 i)) k here.state.place

@@ -1,16 +1,15 @@
 -- A sheet, one bay at a time.
-use Rattle.std.proofs.Common.{◌≡◌, ℕ, suc, ◌+◌, ◌-◌, ◌<◌, ◌≤◌, Bool, List, [], ◌∷◌, ◌++◌, length, take, drop, set, Some, None, Option, sym, refl, ap, ◌∙◌, append_assoc, arith, length-set}
+use Rattle.std.proofs.Common.{◌≡◌, ℕ, suc, ◌+◌, ◌-◌, ◌<◌, ◌≤◌, Bool, List, [], ◌∷◌, ◌++◌, length, take, drop, set, Some, None, Option, sym, refl, ap, ◌∙◌, append_assoc, take-append-drop, arith, length-append, length-drop, length-set, length-take}
+use borrow.Rule.Slice.PartMut.{mid_of, put_mid}
 use Rattle.std.proofs.lemmas.List.{append-nil}
+use Rattle.strides.proofs.Going.{over_on}
 use Rattle.round.specs.declared.state.Report.{Report}
 use Rattle.round.specs.Machine.{next_from}
 use Rattle.round.specs.Sheets.{Page, paged, sheet_from}
 use Rattle.sets.specs.Lists.{over}
 use Rattle.sets.proofs.Memory.{front_more, kept_more, is_over}
+use Rattle.round.specs.Strides.{onto, Going}
 use Rattle.round.specs.States.{handed_by, after_next, after_sheet}
-
--- bays and stretches before those of a page
-abbrev onto : List ℕ → ℕ → Page → Page
-onto ws t r = record { bays = ws ++ r.bays; place = r.place; stretches = t + r.stretches }
 
 module _ (f c : List Bool) where
   pub sheet_full : (p : ℕ) → sheet_from f c 0 p ≡ record { bays = []; place = p; stretches = 0 }
@@ -26,14 +25,6 @@ module _ (f c : List Bool) where
 
   sheet_some : (k p q : ℕ) → (next_from f c p).taken.bay ≡ Some q → sheet_from f c (suc k) p ≡ onto (q ∷ []) (next_from f c p).taken.stretches (sheet_from f c k (next_from f c p).place)
   sheet_some k p q e = sheet_step k p ∙ ap (λ (o : Option ℕ). paged o (next_from f c p) (sheet_from f c k (next_from f c p).place)) e
-
--- n bays of the sheet are written, and the round stands at s
-pub record Going (f c : List Bool) (s₀ : Report) (out₀ : List ℕ) (n : ℕ) (s : Report) (out : List ℕ) : Type 0 where
-  pub size : length out ≡ length out₀
-  pub wrote : sheet_from f c (length out₀) s₀.place ≡ onto (take n out) (s.stretches - s₀.stretches) (sheet_from f c (length out₀ - n) s.place)
-  pub kept : drop n out ≡ drop n out₀
-  pub many : s.handed ≡ s₀.handed + n
-  pub grown : s₀.stretches ≤ s.stretches
 
 -- the sheet is done
 pub record Done (f c : List Bool) (s₀ : Report) (out₀ : List ℕ) (s : Report) (out : List ℕ) : Type 0 where
@@ -61,6 +52,7 @@ module _ (f c : List Bool) (s₀ : Report) (out₀ : List ℕ) where
       let front = front_more n out q fits in
       record {
         size = length-set out n q ∙ i.size;
+        within = omega arith;
         wrote = i.wrote
             ∙ ap (λ (k : ℕ). onto (take n out) (s.stretches - s₀.stretches) (sheet_from f c k s.place)) less
             ∙ ap (onto (take n out) (s.stretches - s₀.stretches)) (sheet_some f c (length out₀ - (n + 1)) s.place q (sym e))
@@ -112,3 +104,34 @@ module _ (f c : List Bool) (s₀ : Report) (out₀ : List ℕ) where
       done n t s out (omega arith) i.size i.kept i.many (omega arith)
       (i.wrote ∙ ap (λ (k : ℕ). onto (take n out) t (sheet_from f c k s.place)) less ∙ ap (onto (take n out) t) (sheet_full f c s.place)
       ∙ (λ j. record { bays = take n out ++ []; place = s.place; stretches = sum j }))
+
+  -- n bays were written, and then the rest of the sheet behind them
+  pub done_rest : (n k : ℕ) (s s' : Report) (out new : List ℕ) → Going f c s₀ out₀ n s out → k ≡ length out - n
+      → s' ≡ after_sheet s (sheet_from f c (length (mid_of n k out)) s.place)
+      → new ≡ over (sheet_from f c (length (mid_of n k out)) s.place).bays (mid_of n k out)
+      → Done f c s₀ out₀ s' (put_mid n k out new)
+  done_rest n k s s' out new g e state wrote =
+      let long : length (mid_of n k out) ≡ length out₀ - n = length-take k (drop n out) ∙ omega (arith, length-drop n out, e, g.size) in
+      let page = sheet_from f c (length (mid_of n k out)) s.place in
+      let t = s.stretches - s₀.stretches in
+      let all : sheet_from f c (length out₀) s₀.place ≡ onto (take n out) t page = g.wrote ∙ ap (λ (m : ℕ). onto (take n out) t (sheet_from f c m s.place)) (sym long) in
+      let front : length (take n out) ≡ n = length-take n out ∙ omega (arith, g.within, g.size) in
+      let before : out ≡ over (take n out) out₀ = sym (take-append-drop n out) ∙ (λ j. take n out ++ g.kept j) ∙ ap (λ (m : ℕ). take n out ++ drop m out₀) (sym front) in
+      let whole : put_mid n k out new ≡ over (take n out ++ page.bays) out₀ =
+      ap (λ (m : ℕ). put_mid m k out new) (sym front)
+      ∙ over_on (take n out) page.bays out₀ out new k before (omega (arith, e, front)) (wrote ∙ ap (λ (m : ℕ). over page.bays (mid_of m k out)) (sym front)) in
+      let size : length (take n out ++ page.bays) ≡ n + length page.bays = length-append (take n out) page.bays ∙ omega (arith, front) in
+      let handed' : s'.handed ≡ s.handed + length page.bays = ap (λ (x : Report). x.handed) state in
+      let stretches' : s'.stretches ≡ s.stretches + page.stretches = ap (λ (x : Report). x.stretches) state in
+      let place' : s'.place ≡ page.place = ap (λ (x : Report). x.place) state in
+      let bays : (sheet_from f c (length out₀) s₀.place).bays ≡ take n out ++ page.bays = ap (λ (x : Page). x.bays) all in
+      let took : (sheet_from f c (length out₀) s₀.place).stretches ≡ t + page.stretches = ap (λ (x : Page). x.stretches) all in
+      let there : (sheet_from f c (length out₀) s₀.place).place ≡ page.place = ap (λ (x : Page). x.place) all in
+      let handed'' : s'.handed ≡ s₀.handed + length (sheet_from f c (length out₀) s₀.place).bays = omega (arith, handed', g.many, size, ap length bays) in
+      let stretches'' : s'.stretches ≡ s₀.stretches + (sheet_from f c (length out₀) s₀.place).stretches = omega (arith, stretches', took, g.grown) in
+      record {
+        counts = omega (arith, handed'');
+        takes = omega (arith, stretches'');
+        writes = whole ∙ ap (λ (xs : List ℕ). over xs out₀) (sym bays);
+        state = λ j. record { handed = handed'' j; stretches = stretches'' j; place = (place' ∙ sym there) j };
+      }

@@ -1,7 +1,6 @@
 -- One step of the walk, and that each stretch takes a bay or more.
-use Rattle.std.proofs.Common.{◌≡◌, ℕ, zero, suc, ◌+◌, ◌-◌, ◌<◌, ◌≤◌, min, max, Bool, true, false, leb, List, Some, None, Option, sym, refl, ap, ◌∙◌, ⊎_elim, arith}
+use Rattle.std.proofs.Common.{◌≡◌, ℕ, zero, suc, ◌+◌, ◌-◌, ◌<◌, ◌≤◌, Bool, true, false, leb, List, Some, None, Option, sym, refl, ap, ◌∙◌, ⊎_elim, arith}
 use Rattle.std.proofs.lemmas.Bool.{cond-true, cond-false, and_parts, and_cases, cases_Bool, cases_lt, cases_eq, both_ways, le-leb, lt-leb}
-use Rattle.std.specs.Option.{unwrap_or}
 use Rattle.sets.specs.Sets.{is, is_member, next_of}
 use Rattle.sets.specs.Laws.{NextIs}
 use Rattle.sets.specs.declared.Sort.TheVariants.{Members}
@@ -19,13 +18,13 @@ stop_past s p w None law l e = omega arith
 stop_past s p w (Some q) law l e =
     ⊎_elim (λ same. absurd (both_ways _ e (ap (is s Members) same ∙ law.1))) (λ differ. omega (arith, law.0)) (cases_eq p q)
 
-stop_end : (w : ℕ) (r : Option ℕ) → stop w r ≤ suc w
+pub stop_end : (w : ℕ) (r : Option ℕ) → stop w r ≤ suc w
 stop_end w None = omega arith
 stop_end w (Some q) = omega arith
 
-stop_read : (w : ℕ) (r : Option ℕ) → min (unwrap_or r (suc w)) (suc w) ≡ stop w r
-stop_read w None = omega arith
-stop_read w (Some q) = refl
+-- a walk with a stretch more
+abbrev pub longer : Walked → Walked
+longer w = record { taken = record { bay = w.taken.bay; stretches = w.taken.stretches + 1 }; place = w.place }
 
 module _ (f c : List Bool) where
   pub larger_past : (p : ℕ) → p ≤ end f c → common f c p ≡ false → p < larger f c p
@@ -43,12 +42,7 @@ module _ (f c : List Bool) where
   unfolding larger
   larger_end p = omega (arith, stop_end (end f c) (next_of f Members p), stop_end (end f c) (next_of c Members p))
 
-  -- the larger of the two next members, each read as one past the end where there is none, cut to that
-  pub larger_read : (p : ℕ) → min (max (unwrap_or (next_of f Members p) (suc (end f c))) (unwrap_or (next_of c Members p) (suc (end f c)))) (suc (end f c)) ≡ larger f c p
-  unfolding larger
-  larger_read p = omega (arith, stop_read (end f c) (next_of f Members p), stop_read (end f c) (next_of c Members p))
-
-  larger_here : (p : ℕ) → p ≤ end f c → common f c p ≡ true → larger f c p ≡ p
+  pub larger_here : (p : ℕ) → p ≤ end f c → common f c p ≡ true → larger f c p ≡ p
   unfolding common larger
   larger_here p l e =
       let both = and_parts (is_member f p) (is_member c p) e in
@@ -99,11 +93,11 @@ module _ (f c : List Bool) where
   unfolding rest
   rest_end p n h = walk_end (suc (end f c) - p) p n h
 
-  rest_here : (p n : ℕ) → p ≤ end f c → common f c p ≡ true → rest p n ≡ record { taken = record { bay = Some p; stretches = n + 1 }; place = p + 1 }
+  pub rest_here : (p n : ℕ) → p ≤ end f c → common f c p ≡ true → rest p n ≡ record { taken = record { bay = Some p; stretches = n + 1 }; place = p + 1 }
   unfolding rest
   rest_here p n h e = walk_here (suc (end f c) - p) p n (omega arith) h e
 
-  rest_on : (p n : ℕ) → p ≤ end f c → common f c p ≡ false → rest p n ≡ rest (larger f c p) (n + 1)
+  pub rest_on : (p n : ℕ) → p ≤ end f c → common f c p ≡ false → rest p n ≡ rest (larger f c p) (n + 1)
   unfolding rest
   rest_on p n h e =
       let past = larger_past p h e in
@@ -112,6 +106,22 @@ module _ (f c : List Bool) where
       let d = larger f c p - suc p in
       let sum : suc (end f c) - p ≡ suc (m + d) = omega arith in
       ap (λ x. walk f c x p n) sum ∙ walk_on (m + d) p n h e ∙ walk_enough m d (larger f c p) (n + 1) (omega arith)
+
+  walk_more : (m p n : ℕ) → walk f c m p (n + 1) ≡ longer (walk f c m p n)
+  unfolding walk
+  walk_more zero p n = refl
+  walk_more (suc m) p n =
+      ⊎_elim
+      (λ beyond. walk_end (suc m) p (n + 1) beyond ∙ ap longer (sym (walk_end (suc m) p n beyond)))
+      (λ within. ⊎_elim
+      (λ e. walk_here (suc m) p (n + 1) (omega arith) within e ∙ ap longer (sym (walk_here (suc m) p n (omega arith) within e)))
+      (λ e. walk_on m p (n + 1) within e ∙ walk_more m (larger f c p) (n + 1) ∙ ap longer (sym (walk_on m p n within e)))
+      (cases_Bool (common f c p)))
+      (cases_lt (end f c) p)
+
+  pub rest_more : (p n : ℕ) → rest p (n + 1) ≡ longer (rest p n)
+  unfolding rest
+  rest_more p n = walk_more (suc (end f c) - p) p n
 
   -- a stretch from p that reached m ended at a common bay,
   pub step_here : (p m n : ℕ) → p ≤ end f c → m ≡ larger f c p → m ≡ p → ◌≡◌ {A = Walked} (record { taken = record { bay = Some p; stretches = n + 1 }; place = p + 1 }) (rest p n)

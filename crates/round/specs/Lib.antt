@@ -4,6 +4,7 @@ pub mod Machine
 pub mod Stretches
 pub mod Handed
 pub mod Sheets
+pub mod Strides
 pub mod States
 pub mod Rounds
 pub mod Posts

@@ -3,7 +3,9 @@
 
 mod asks;
 mod moves;
+mod pace;
 mod posts;
+mod sheets;
 mod state;
 mod text;
 mod walk;

@@ -55,12 +55,8 @@ impl<F: Counting, C: Walking> Round<F, C> {
         ensures sets { SameSets self.old self.new }
     {
         let before = self.state;
-        for slot in out.iter_mut() {
-            let Some(bay) = self.next().bay else {
-                break;
-            };
-            *slot = bay;
-        }
+        let written = self.stride(out);
+        self.fill(&mut out[written..]);
         Written {
             bays: self.state.handed - before.handed,
             stretches: self.state.stretches - before.stretches,

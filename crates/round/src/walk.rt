@@ -1,10 +1,12 @@
 // The stretches from a round's place on, until a common bay.
 ghost use Rattle.std.specs.Prelude.{◌≡◌, suc, ◌+◌, ◌≤◌};
 ghost use Rattle.round.specs.Handed.{HandedIs};
-ghost use Rattle.round.specs.Machine.{larger};
+ghost use Rattle.round.specs.Machine.{stop, larger};
 ghost use Rattle.round.specs.Rounds.{free_of, class_of, last_bay, walk_of, Passed};
 ghost use Rattle.round.specs.States.{handed_by};
 ghost use Rattle.round.specs.Stretches.{Fewest};
+ghost use Rattle.sets.specs.Sets.{next_of};
+ghost use Rattle.sets.specs.declared.Sort.TheVariants.{Members};
 
 use super::state::{Round, Taken};
 use sets::{Counting, Sort, Walking};
@@ -16,6 +18,14 @@ pub struct Walked {
     pub place: u32,
 }
 
+// The next member of a set at `p` in a round that ends at `w`; none, or one beyond `w`, is read as w + 1.
+pub(crate) fn next_within<S: Walking>(set: &S, w: u32, p: u32) -> u32
+    requires { w ≤ 65535 }
+    ensures { result ≡ stop w (next_of (S.meant set.now) Members p) }
+{
+    set.next(Sort::Members, p).unwrap_or(w + 1).min(w + 1)
+}
+
 impl<F: Counting, C: Walking> Round<F, C> {
     // The smaller of the two last bays.
     pub(crate) fn last_bay(&self) -> u32
@@ -24,15 +34,14 @@ impl<F: Counting, C: Walking> Round<F, C> {
         self.free.last().min(self.class.last())
     }
 
-    // The larger of the next members at `p` in a round that ends at `w`, which a walk asks once; none, or one beyond `w`, is read
-    // as w + 1.
-    fn stretch_end(&self, w: u32, p: u32) -> u32
+    // The larger of the next members at `p` in a round that ends at `w`, which a walk asks once.
+    pub(crate) fn stretch_end(&self, w: u32, p: u32) -> u32
         requires { w ≡ last_bay self.now }
         ensures { result ≡ larger (free_of self.now) (class_of self.now) p }
     {
-        let in_free = self.free.next(Sort::Members, p).unwrap_or(w + 1);
-        let in_class = self.class.next(Sort::Members, p).unwrap_or(w + 1);
-        in_free.max(in_class).min(w + 1)
+        let in_free = next_within(&self.free, w, p);
+        let in_class = next_within(&self.class, w, p);
+        in_free.max(in_class)
     }
 
     // Takes stretches from the round's place on, until one is a common bay or the round is at its end.

@@ -1,8 +1,8 @@
--- What is left to show of `Round::stretch_end`.
-use Rattle.std.proofs.Common.{arith}
-use Rattle.round.specs.Rounds.{free_of, class_of}
-use Rattle.round.proofs.Walks.{larger_read}
+-- What is left to show of `stretch_end`.
+use Rattle.std.proofs.Common.{max, ◌∙◌}
+use Rattle.round.specs.Machine.{larger}
 use Rattle.round.proofs.state.Round.stretch_end.Goals as goal
 
 pub returns : goal.returns
-returns g c = grind (arith, larger_read (free_of c.args.self.now) (class_of c.args.self.now) c.args.p)
+unfolding larger
+returns g c = c.max.ensures ∙ (λ i. max (rw c.requires at c.next_within-in_free.ensures i) (rw c.requires at c.next_within-in_class.ensures i))

@@ -1,7 +1,7 @@
--- What the loop of `Round::sheet` keeps.
+-- What the loop of `Round::fill` keeps.
 use Rattle.round.specs.Rounds.{free_of, class_of, SameSets}
-use Rattle.round.proofs.Sheeting.{Going}
-use Rattle.round.proofs.state.Round.sheet.Given as goal
+use Rattle.round.specs.Strides.{Going}
+use Rattle.round.proofs.state.Round.fill.Given as goal
 
 abbrev pub invariant-loop-slot : goal.invariant-loop-slot
 invariant-loop-slot g l =
