@@ -6,6 +6,7 @@
 // follows from them.
 #![tactic(auto)]
 
+mod after;
 mod checks;
 mod copying;
 mod count;
@@ -20,6 +21,7 @@ mod whole;
 mod words;
 mod writing;
 
+pub use after::{kth_after, ones_after};
 pub use checks::check;
 pub use copying::copy;
 pub use count::ones;

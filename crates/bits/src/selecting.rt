@@ -10,7 +10,7 @@ use super::words::{whole_word_of, word};
 use sets::Sort;
 
 // The place, from 0, of the `k`-th one of `w`: the lowest after the `k` - 1 lowest are gone.
-fn place_in_word(w: u64, k: u32) -> u32
+pub(crate) fn place_in_word(w: u64, k: u32) -> u32
     requires first { 1 ≤ k }
     requires within { k ≤ ones_of w }
     ensures below { result < 64 }

@@ -87,7 +87,7 @@ module _ (z : Zombit) where
       (cases_Bool (U z (suc k)))
 
   -- the members of the first k blocks
-  blocks_count : (k : ℕ) → k ≤ blocks z → count_to (bays z) (k * β) + bits_before β (U z) k ≡ count_to (O z) k * β + count_to (M z) (bits_before β (U z) k)
+  pub blocks_count : (k : ℕ) → k ≤ blocks z → count_to (bays z) (k * β) + bits_before β (U z) k ≡ count_to (O z) k * β + count_to (M z) (bits_before β (U z) k)
   blocks_count zero h =
       let e = zero-mul β in
       let none = ap (λ (n : ℕ). n * β) (count_none (λ j. not (U z j))) ∙ e in

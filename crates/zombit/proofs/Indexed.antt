@@ -18,7 +18,7 @@ module _ (z : Zombit) where
   pub places_cover : z.blocks.last ≤ places z
   places_cover = blocks_cover z.blocks.last z.blocks.size some_size
 
-  places_few : places z ≤ z.blocks.last + z.blocks.size
+  pub places_few : places z ≤ z.blocks.last + z.blocks.size
   places_few = blocks_reach z.blocks.last z.blocks.size some_size
 
   -- block k ends among the places

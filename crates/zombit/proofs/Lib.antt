@@ -20,3 +20,4 @@ pub mod Seeing
 pub mod Passes
 pub mod Added
 pub mod Unpacked
+pub mod Onward

@@ -10,4 +10,5 @@ pub mod Measures
 pub mod Writing
 pub mod Looking
 pub mod Unpacking
+pub mod Passing
 pub mod Refilling

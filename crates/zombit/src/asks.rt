@@ -5,6 +5,7 @@ ghost use Rattle.zombit.specs.Meant.{bays, meaning};
 use super::blocks::Spot;
 use super::index::Zombit;
 use super::kind::Kind;
+use super::passed::Passed;
 use sets::{Counting, Sort, Walking};
 
 impl<'a> Walking for Zombit<'a> {
@@ -63,10 +64,19 @@ impl<'a> Counting for Zombit<'a> {
     }
 
     fn select(&self, sort: Sort, n: u32) -> Option<u32> {
-        if n == 0 || n > self.count_before(sort, self.blocks.count()) {
+        if n == 0 {
             return None;
         }
-        let k = self.block_with(sort, n);
-        self.within(self.nth_in_block(sort, k, n))
+        let none = Passed {
+            block: 0,
+            bits: 0,
+            members: 0,
+        };
+        let group = self.pass(sort, n, none, 64);
+        let passed = self.pass(sort, n, group, 1);
+        if passed.block == self.blocks.count() {
+            return None;
+        }
+        self.within(self.nth_in_block(sort, n, passed))
     }
 }

@@ -1,29 +1,20 @@
 // How many places of a sort there are, and the n-th of them.
-ghost use Rattle.std.specs.Prelude.{◌≡◌, ◌+◌, ◌*◌, ◌<◌, ◌≤◌, length};
-ghost use Rattle.bits.specs.Bits.{bit_at};
-ghost use Rattle.sets.specs.Made.{of_sort};
+ghost use Rattle.std.specs.Prelude.{◌≡◌, ◌+◌, ◌*◌, ◌<◌, ◌≤◌};
 ghost use Rattle.sets.specs.Search.{count_to, kth_to};
 ghost use Rattle.zombit.specs.Meant.{O, bits_before_block, blocks, places, bays, sorted};
+ghost use Rattle.zombit.specs.Passing.{IsPassed};
 
 use super::blocks::Spot;
 use super::index::Zombit;
 use super::kind::Kind;
-use sets::{Sort, partition_point};
+use super::passed::Passed;
+use sets::Sort;
 
 // What the first blocks have: the bays of the full ones, and the bits of the mixed ones.
 #[derive(Clone, Copy)]
 struct Before {
     full: u32,
     bits: u32,
-}
-
-// How many of the bits 1 to `i` stand for the sort.
-fn bits_of(bytes: &[u8], sort: Sort, i: u32) -> u32
-    requires within { i ≤ 8 * length bytes.now }
-    ensures value { result ≡ count_to (of_sort sort (bit_at bytes.now)) i }
-    ensures bound { result ≤ i }
-{
-    sort.share(bits::ones(bytes, i), i)
 }
 
 impl<'a> Zombit<'a> {
@@ -56,40 +47,18 @@ impl<'a> Zombit<'a> {
         }
     }
 
-    // How many places of the sort the first `k` blocks have.
-    pub(crate) fn count_before(&self, sort: Sort, k: u32) -> u32
-        requires block { k ≤ blocks self.now }
-        ensures { result ≡ count_to (sorted self.now sort) (k * self.now.blocks.size) }
-    {
-        let Before { full, bits } = self.before(k);
-        let members = full + bits::ones(self.mixed, bits);
-        sort.share(members, k * self.blocks.size)
-    }
-
-    // The block in which the `n`-th place of the sort lies.
-    pub(crate) fn block_with(&self, sort: Sort, n: u32) -> u32
-        requires first { 1 ≤ n }
-        requires within { n ≤ count_to (sorted self.now sort) (places self.now) }
-        ensures block { result < blocks self.now }
-        ensures before { count_to (sorted self.now sort) (result * self.now.blocks.size) < n }
-        ensures reached { n ≤ count_to (sorted self.now sort) (result * self.now.blocks.size + self.now.blocks.size) }
-    {
-        let reached = partition_point(1, self.blocks.count(), |k| self.count_before(sort, k) < n);
-        reached - 1
-    }
-
-    // The `n`-th place of the sort, which lies in block `k`.
-    pub(crate) fn nth_in_block(&self, sort: Sort, k: u32, n: u32) -> Option<u32>
-        requires block { k < blocks self.now }
-        requires before { count_to (sorted self.now sort) (k * self.now.blocks.size) < n }
-        requires reached { n ≤ count_to (sorted self.now sort) (k * self.now.blocks.size + self.now.blocks.size) }
+    // The `n`-th place of the sort, which lies in the block after those that were passed.
+    pub(crate) fn nth_in_block(&self, sort: Sort, n: u32, passed: Passed) -> Option<u32>
+        requires is { IsPassed self.now passed }
+        requires block { passed.block < blocks self.now }
+        requires before { count_to (sorted self.now sort) (passed.block * self.now.blocks.size) < n }
+        requires reached { n ≤ count_to (sorted self.now sort) (passed.block * self.now.blocks.size + self.now.blocks.size) }
         ensures { result ≡ kth_to (sorted self.now sort) n (places self.now) }
     {
-        let left = n - self.count_before(sort, k);
         let size = self.blocks.size;
-        self.place_in_block(sort, k, left, |before| {
-            let earlier = bits_of(self.mixed, sort, before);
-            bits::kth(self.mixed, sort, earlier + left, before + size)
+        let left = n - sort.share(passed.members, passed.block * size);
+        self.place_in_block(sort, passed.block, left, |before| {
+            bits::kth_after(self.mixed, sort, before, left, before + size)
         })
     }
 }

@@ -18,6 +18,8 @@ mod index;
 mod kind;
 mod measuring;
 mod open;
+mod passed;
+mod passing;
 mod row;
 mod rows;
 mod seen;
