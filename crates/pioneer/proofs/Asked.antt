@@ -22,15 +22,6 @@ module _ (f : ℕ → Bool) where
   pub last_here : (i : ℕ) → 1 ≤ i → f i ≡ true → Some i ≡ last_to f i
   last_here i l e = last_by f i (Some i) (l, omega arith, e, λ j a b. absurd (omega arith))
 
-  -- between two neighbours at which the count comes to k
-  pub kth_here : (low high k n : ℕ) → high ≡ suc low → high ≤ n → count_to f low < k → k ≤ count_to f high → Some high ≡ kth_to f k n
-  kth_here low high k n same h few most =
-      let at = ap (count_to f) same in
-      ⊎_elim
-      (λ e. kth_by f k n (Some high) (omega arith, h, ap f same ∙ e, omega (arith, count_here f low e)))
-      (λ e. absurd (omega (arith, count_on f low e)))
-      (cases_Bool (f (suc low)))
-
 module _ (u n : ℕ) (P L : ℕ → Bool) (law : Lawful u n P L) where
   -- behind a run, the next member is the next pioneer
   pub next_pioneer : (i : ℕ) → 1 ≤ i → in_run u n P L i ≡ false → first_from P i (suc u - i) ≡ first_from (in_run u n P L) i (suc u - i)

@@ -11,6 +11,7 @@ pub mod Checking
 pub mod Finding
 pub mod Answered
 pub mod Members
+pub mod Searching
 pub mod Writing
 pub mod Unpacking
 pub mod Packed

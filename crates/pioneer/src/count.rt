@@ -3,8 +3,9 @@ ghost use Rattle.std.specs.Prelude.{◌≡◌, ◌≤◌, not};
 ghost use Rattle.pioneer.specs.Found.{member_of};
 ghost use Rattle.sets.specs.Search.{count_to, kth_to};
 
+use super::between::Between;
 use super::index::Pioneer;
-use sets::{Sort, partition_point};
+use sets::Sort;
 
 impl<'a> Pioneer<'a> {
     // How many members lie from bay 1 to bay `i`.
@@ -33,13 +34,40 @@ impl<'a> Pioneer<'a> {
         Some(start + (k - before) - 1)
     }
 
-    // The `k`-th non-member: the first bay up to which there are so many.
+    // The `k`-th non-member lies behind as many members as the runs before it have. Where the last run that begins by a bay is the last one
+    // before it, it is found; else it lies before that run, or behind that bay.
     pub(crate) fn other(&self, k: u32) -> Option<u32>
         ensures { result ≡ kth_to (λ j. not (member_of self.now j)) k self.now.last }
     {
         if k == 0 || k > self.last - self.count {
             return None;
         }
-        Some(partition_point(1, self.last, |i| i - self.members(i) < k))
+        let mut between = Between {
+            low: 0,
+            few: 0,
+            high: self.last,
+            enough: self.last - self.count,
+        };
+        let mut tries: u32 = 0;
+        while between.low < between.high {
+            let bay = between.pick(k, tries);
+            let (start, before, sum) = self.begun(bay).map_or(
+                (0, 0, 0),
+                |run| (run.start, run.before, run.before + run.length),
+            );
+            let behind = start + (sum - before);
+            let found = k + sum;
+            if found < behind {
+                between.high = start - 1;
+                between.enough = start - 1 - before;
+            } else if bits::next(self.starts, Sort::Members, bay + 1, found).is_none() {
+                return Some(found);
+            } else {
+                between.low = bay.max(behind.saturating_sub(1));
+                between.few = between.low - sum;
+            }
+            tries = tries.saturating_add(1);
+        }
+        None
     }
 }

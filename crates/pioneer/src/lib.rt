@@ -6,6 +6,7 @@ ghost use Rattle.pioneer.specs.Filling.{pioneer_layout};
 ghost use Rattle.pioneer.specs.Refilling.{PartsTell, RefillsReturn};
 
 mod asks;
+mod between;
 mod checks;
 mod count;
 mod fill;
