@@ -1,10 +1,15 @@
 -- The numbers of a set are exactly its members, rising; they are opened, and stand for it.
-use Rattle.std.proofs.Common.{◌≡◌, ℕ, zero, suc, ◌+◌, ◌<◌, ◌≤◌, Bool, true, List, [], ◌∷◌, length, sym, refl, ap, ◌∙◌, subst, inl, inr, ⊎_elim, arith}
+use Rattle.std.proofs.Common.{◌≡◌, ℕ, zero, suc, ◌+◌, ◌<◌, ◌≤◌, Bool, true, List, [], ◌∷◌, ◌++◌, length, sym, refl, ap, ◌∙◌, subst, inl, inr, ⊎_elim, arith, length-append}
 use Rattle.std.proofs.lemmas.Bool.{cases_Bool, cases_lt, both_ways}
 use Rattle.sets.specs.declared.Sort.TheVariants.{Members}
 use Rattle.sets.specs.Lists.{Among, Each, Rising}
-use Rattle.sets.specs.Sets.{is_member}
-use Rattle.sets.proofs.Bays.{is_bay}
+use Rattle.sets.specs.Packing.{pack, member_after}
+use Rattle.sets.specs.Search.{count_to}
+use Rattle.sets.specs.Sets.{is_member, Sized}
+use Rattle.sets.proofs.Bays.{is_bay, is_beyond}
+use Rattle.sets.proofs.Tests.{count_none, count_here, count_on}
+use Rattle.bits.specs.Bits.{bit_at}
+use Rattle.bits.proofs.Packing.{packs}
 use Rattle.list.specs.Filling.{numbers_of}
 use Rattle.list.specs.Refilling.{PartsTell}
 use Rattle.list.specs.Lawful.{RisesWithin}
@@ -73,3 +78,49 @@ numbers_rise s = (
   passing_rises (is_member s) 1 (length s),
   each_among (λ x. x ≤ length s) (numbers_of s) (λ j m. omega (arith, (passing_only (is_member s) 1 (length s) j m).1)),
 )
+
+-- ---- how many there are
+
+module _ (f : ℕ → Bool) where
+  pub passing_join : (p n m : ℕ) → passing f p (n + m) ≡ passing f p n ++ passing f (p + n) m
+  passing_join p zero m =
+      let none : zero + m ≡ m = omega arith in
+      let same : p ≡ p + zero = omega arith in
+      (λ i. passing f (same i) (none i))
+  passing_join p (suc n) m =
+      let more : suc n + m ≡ suc (n + m) = omega arith in
+      let same : suc p + n ≡ p + suc n = omega arith in
+      let rest : passing f (suc p) (n + m) ≡ passing f (suc p) n ++ passing f (p + suc n) m =
+      passing_join (suc p) n m ∙ ap (λ (q : ℕ). passing f (suc p) n ++ passing f q m) same in
+      ap (λ (k : ℕ). passing f p k) more
+      ∙ ⊎_elim
+      (λ e. passing_here f p (n + m) e ∙ ap (λ xs. p ∷ xs) rest ∙ ap (λ xs. xs ++ passing f (p + suc n) m) (sym (passing_here f p n e)))
+      (λ e. passing_on f p (n + m) e ∙ rest ∙ ap (λ xs. xs ++ passing f (p + suc n) m) (sym (passing_on f p n e)))
+      (cases_Bool (f p))
+
+  pub passing_count : (n : ℕ) → length (passing f 1 n) ≡ count_to f n
+  passing_count zero = sym (count_none f)
+  passing_count (suc n) =
+      let more : suc n ≡ n + 1 = omega arith in
+      let at : 1 + n ≡ suc n = omega arith in
+      let split = ap length (ap (passing f 1) more ∙ passing_join 1 n 1) ∙ length-append (passing f 1 n) (passing f (1 + n) 1) in
+      let last = ap (λ (q : ℕ). length (passing f q 1)) at in
+      ⊎_elim
+      (λ e. omega (arith, split, last, ap length (passing_here f (suc n) 0 e), passing_count n, count_here f n e))
+      (λ e. omega (arith, split, last, ap length (passing_on f (suc n) 0 e), passing_count n, count_on f n e))
+      (cases_Bool (f (suc n)))
+
+pub numbers_count : (s : List Bool) → count_to (is_member s) (length s) ≡ length (numbers_of s)
+unfolding numbers_of
+numbers_count s = sym (passing_count (is_member s) (length s))
+
+-- the bits of all bays that a set can have
+pub row_tells : (s : List Bool) (n : ℕ) (row : List ℕ) → Sized s → 65535 ≤ n → row ≡ pack n (member_after s 0) → (i : ℕ) → 1 ≤ i → bit_at row i ≡ is_member s i
+row_tells s n row sized room e i one =
+    let law = packs n (member_after s 0) in
+    let same : 0 + i ≡ i = omega arith in
+    ap (λ bytes. bit_at bytes i) e
+    ∙ ⊎_elim
+    (λ past. law.1 i past ∙ sym (is_beyond s Members i (omega (arith, sized.1))))
+    (λ within. law.3 i one within ∙ ap (is_member s) same)
+    (cases_lt n i)

@@ -16,6 +16,7 @@ mod others;
 mod putting;
 mod quarters;
 mod rank;
+mod row;
 mod select;
 mod slip;
 mod source;

@@ -2,24 +2,20 @@
 ghost use Rattle.std.specs.Prelude.{◌≡◌};
 ghost use Rattle.list.specs.Filling.{told_of};
 
+use super::row::row_of;
 use super::slip::ListSlip;
 use super::told::ListTold;
-use sets::{Sort, Walking};
+use sets::Walking;
 
 impl ListTold {
     /// What the set takes.
     pub fn of<S: Walking>(set: &S) -> ListTold
         ensures { result ≡ told_of (S.Walking.meant set.now) }
     {
-        let mut numbers = 0;
-        let mut from = 1;
-        while let Some(bay) = set.next(Sort::Members, from) {
-            numbers += 1;
-            from = bay + 1;
-        }
+        let last = set.last();
         ListTold {
-            last: set.last(),
-            numbers,
+            last,
+            numbers: bits::ones(&row_of(set), last) as usize,
         }
     }
 }
