@@ -28,14 +28,14 @@ module _ (s : List Bool) (a b : ℕ) (bays : BaysOf a b s) (size : Sized s) wher
   pub level_length : length (level_in a b s) ≡ b - a + 1
   level_length = made_length (last_in a b s - first_in a s + 1) (λ i. is_member s (first_in a s + i - 1)) ∙ omega arith
 
-  level_is : (k : Sort) (j : ℕ) → 1 ≤ j → j ≤ b - a + 1 → is (level_in a b s) k j ≡ is s k (a - 1 + j)
+  pub level_is : (k : Sort) (j : ℕ) → 1 ≤ j → j ≤ b - a + 1 → is (level_in a b s) k j ≡ is s k (a - 1 + j)
   level_is k j h l =
       let at : first_in a s + j - 1 ≡ a - 1 + j = omega arith in
       made_is (last_in a b s - first_in a s + 1) (λ i. is_member s (first_in a s + i - 1)) k j h (omega arith)
       ∙ ap (λ n. fits k (is_member s n)) at
       ∙ of_sort_lem s k (a - 1 + j) (omega arith) (omega arith)
 
-  level_outside : (k : Sort) (j : ℕ) → b - a + 1 < j → is (level_in a b s) k j ≡ false
+  pub level_outside : (k : Sort) (j : ℕ) → b - a + 1 < j → is (level_in a b s) k j ≡ false
   level_outside k j h = made_outside (last_in a b s - first_in a s + 1) (λ i. is_member s (first_in a s + i - 1)) k j (omega arith)
 
   -- what is of no sort beneath is of none in the level

@@ -2,3 +2,4 @@
 pub mod Turns
 pub mod Shifts
 pub mod Levels
+pub mod Packed

@@ -29,6 +29,11 @@ impl<S: Counting> Walking for Level<S> {
         let to = self.beneath(i).min(self.last);
         self.lift(self.below.previous(sort, to))
     }
+
+    fn bits(&self, before: u32, out: &mut [u8]) {
+        self.below.bits(self.beneath(before), out);
+        bits::cut(out, self.last().saturating_sub(before));
+    }
 }
 
 impl<S: Counting> Counting for Level<S> {

@@ -59,6 +59,12 @@ impl<S: Counting> Walking for Turned<S> {
     fn previous(&self, sort: Sort, i: u32) -> Option<u32> {
         self.below.previous(turn(sort), i)
     }
+
+    fn bits(&self, before: u32, out: &mut [u8]) {
+        self.below.bits(before, out);
+        bits::turn(out);
+        bits::cut(out, self.last().saturating_sub(before));
+    }
 }
 
 impl<S: Counting> Counting for Turned<S> {
