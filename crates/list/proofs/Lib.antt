@@ -4,6 +4,7 @@ pub mod Members
 pub mod Places
 pub mod Ends
 pub mod Put
+pub mod Taken
 pub mod Parted
 pub mod Asked
 pub mod Selected

@@ -5,4 +5,5 @@ pub mod Decoding
 pub mod Lawful
 pub mod Opening
 pub mod Filling
+pub mod Words
 pub mod Refilling

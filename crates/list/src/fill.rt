@@ -5,24 +5,23 @@ ghost use Rattle.filling.specs.Rooms.{filling, FillingIs, wrote};
 ghost use Rattle.sets.specs.Lists.{over};
 ghost use Rattle.list.specs.Filling.{numbers_of, parts_of};
 
+use super::ones::write_ones;
+use super::row::row_of;
 use super::slip::ListSlip;
 use super::told::ListTold;
 use faults::{Fault, Form, Located};
 use filling::check_room;
-use sets::{Sort, Walking};
+use sets::Walking;
 
 // Writes the members of the set to the front of the memory, which has room for them.
 fn write_members<S: Walking>(set: &S, numbers: &mut [u16])
     requires { length (numbers_of (S.Walking.meant set.now)) ≤ length numbers.old }
     ensures { numbers.new ≡ over (numbers_of (S.Walking.meant set.now)) numbers.old }
 {
-    let mut from = 1;
-    for slot in numbers.iter_mut() {
-        let Some(bay) = set.next(Sort::Members, from) else {
-            break;
-        };
-        *slot = bay as u16;
-        from = bay + 1;
+    let row = row_of(set);
+    let mut n = 0;
+    for k in 0..set.last().div_ceil(64) {
+        n += write_ones(bits::row(&row, 64 * k), 64 * k, &mut numbers[n..]);
     }
 }
 

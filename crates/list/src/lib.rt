@@ -11,6 +11,7 @@ mod check;
 mod fill;
 mod index;
 mod measuring;
+mod ones;
 mod open;
 mod others;
 mod putting;

@@ -1,36 +1,37 @@
 -- What is left to show of `write_members`.
-use Rattle.std.proofs.Common.{◌≤◌, sym, ◌∙◌, arith}
-use lib.Seq.{set-get_or}
-use Rattle.list.proofs.Walked.{next_bay, later_none}
-use Rattle.list.proofs.Written.{going_start, going_on, going_none, going_full}
-use Rattle.list.proofs.fill.write_members.Given.{Over}
+use Rattle.std.proofs.Common.{ℕ, ◌+◌, ◌-◌, ◌*◌, ◌++◌, length, take, drop, sym, subst, arith, length-take}
+use Rattle.std.proofs.lemmas.List.{length-drop}
+use Rattle.list.specs.Words.{ones_after}
+use Rattle.list.proofs.Written.{Going, going_start, going_on, fits, ones_told, one_bay, part_written}
 use Rattle.list.proofs.fill.write_members.Goals as goal
 
-pub loop-slot-init : goal.loop-slot-init
-loop-slot-init g c = going_start _ _
+pub loop-k-init : goal.loop-k-init
+loop-k-init g c = going_start (g.S.Walking.meant c.args.set.now) c.args.numbers.now
 
--- the next member fits the memory's numbers
-fits : (g : Over) (c : goal.In-Some g) → c.in-Some.bay ≤ 65535
-fits g c = omega (arith, (next_bay _ _ _ (sym c.in-Some.is ∙ c.next.ensures)).1, (g.met.S.Walking.sized c.args.set.now).1)
+pub write_ones-n-requires-clause-room : goal.write_ones-n-requires-clause-room
+write_ones-n-requires-clause-room g c =
+    let memory = c.loop-k.numbers in
+    let n = c.loop-k.n in
+    let s = g.S.Walking.meant c.args.set.now in
+    let k = c.loop-k.k in
+    let tells = ones_told s c.row_of-row.result k c.row.result c.row_of-row.ensures c.row.ensures in
+    let room = fits s c.args.numbers.now n k memory c.loop-k.invariant (ones_after c.row.result (64 * k)) tells c.requires in
+    omega (arith, room, length-take (length memory - n) (drop n memory), length-drop n memory)
 
-pub overflow_cast-slot : goal.overflow_cast-slot
-overflow_cast-slot g c = omega (arith, fits g c)
+pub write_ones-n-requires-clause-small : goal.write_ones-n-requires-clause-small
+write_ones-n-requires-clause-small g c = λ t l e.
+    let s = g.S.Walking.meant c.args.set.now in
+    omega (arith, one_bay s c.row_of-row.result c.loop-k.k c.row.result c.row_of-row.ensures c.row.ensures t l e, (g.met.S.Walking.sized c.args.set.now).1)
 
-pub overflow_add-from : goal.overflow_add-from
-overflow_add-from g c = omega (arith, fits g c)
-
-pub loop-slot-preserved : goal.loop-slot-preserved
-loop-slot-preserved g c =
-    let inv = c.loop-slot.invariant in
-    going_on _ _ _ _ _ _ (omega (arith, c.loop-slot-test.true, inv.size)) (sym c.in-Some.is ∙ c.next.ensures) inv
-
-pub returns-in_default : goal.returns-in_default
-returns-in_default g c =
-    let inv = c.loop-slot.invariant in
-    set-get_or c.loop-slot.numbers c.loop-slot.slot-index 0
-    ∙ going_none _ _ _ _ _ (omega (arith, c.loop-slot-test.true, inv.size)) (later_none _ _ (sym c.in_default.is ∙ c.next.ensures)) inv
-
-pub returns-after-loop-slot : goal.returns-after-loop-slot
-returns-after-loop-slot g c =
-    let inv = c.loop-slot.invariant in
-    going_full _ _ _ _ _ (omega (arith, c.loop-slot-test.false, c.loop-slot.auto, inv.size)) c.requires inv
+pub loop-k-preserved : goal.loop-k-preserved
+loop-k-preserved g c =
+    let s = g.S.Walking.meant c.args.set.now in
+    let old = c.args.numbers.now in
+    let memory = c.loop-k.numbers in
+    let n = c.loop-k.n in
+    let k = c.loop-k.k in
+    let xs = ones_after c.row.result (64 * k) in
+    let tells = ones_told s c.row_of-row.result k c.row.result c.row_of-row.ensures c.row.ensures in
+    let written = take n memory ++ (c.write_ones-n.new.numbers ++ drop (length memory - n) (drop n memory)) in
+    let on = going_on s old n k memory c.loop-k.invariant xs tells written c.requires (part_written n memory c.write_ones-n.new.numbers xs c.write_ones-n.ensures.wrote) in
+    subst (λ (m : ℕ). Going s old (n + m) (k + 1) written) (sym c.write_ones-n.ensures.count) on
