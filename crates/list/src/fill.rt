@@ -21,7 +21,8 @@ fn write_members<S: Walking>(set: &S, numbers: &mut [u16])
     let row = row_of(set);
     let mut n = 0;
     for k in 0..set.last().div_ceil(64) {
-        n += write_ones(bits::row(&row, 64 * k), 64 * k, &mut numbers[n..]);
+        let word = bits::whole_word(&row, 8 * k as usize);
+        n += write_ones(word, 64 * k, &mut numbers[n..]);
     }
 }
 
