@@ -1,5 +1,5 @@
 // How the bays lie in blocks.
-ghost use Rattle.std.specs.Prelude.{◌≡◌, ◌+◌, ◌*◌, ◌<◌, ◌≤◌, length};
+ghost use Rattle.std.specs.Prelude.{◌≡◌, ◌+◌, ◌*◌, ◌/◌, ◌<◌, ◌≤◌, length};
 ghost use Rattle.sets.specs.Sets.{LastBay};
 ghost use Rattle.bits.specs.Bits.{bit_at};
 ghost use Rattle.zombit.specs.Blocks.{blocks_of, bits_before};
@@ -29,6 +29,18 @@ impl Blocks {
         self.last.div_ceil(self.size)
     }
 
+    // How many blocks the first `n` places fill: by a shift where the size is a power of two, since a division takes longer.
+    fn filled(self, n: u32) -> u32
+        ensures { result ≡ n / self.size }
+    {
+        let log = self.size.ilog2();
+        if self.size == 1 << log {
+            n >> log
+        } else {
+            n / self.size
+        }
+    }
+
     // Where bay `i` lies.
     pub(crate) fn spot(self, i: u32) -> Spot
         requires first { 1 ≤ i }
@@ -38,9 +50,10 @@ impl Blocks {
         ensures first { 1 ≤ result.at }
         ensures end { result.at ≤ self.size }
     {
+        let block = self.filled(i - 1);
         Spot {
-            block: (i - 1) / self.size,
-            at: (i - 1) % self.size + 1,
+            block,
+            at: i - block * self.size,
         }
     }
 
