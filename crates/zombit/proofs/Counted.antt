@@ -34,7 +34,7 @@ count_along f g a c (suc n) h =
     (cases_Bool (f (suc (a + n))))
 
 -- all of n numbers pass
-count_all : (f : ℕ → Bool) (a n : ℕ) → ((j : ℕ) → 1 ≤ j → j ≤ n → f (a + j) ≡ true) → count_to f (a + n) ≡ count_to f a + n
+pub count_all : (f : ℕ → Bool) (a n : ℕ) → ((j : ℕ) → 1 ≤ j → j ≤ n → f (a + j) ≡ true) → count_to f (a + n) ≡ count_to f a + n
 count_all f a zero h = let x : a + zero ≡ a = omega arith in omega (arith, ap (count_to f) x)
 count_all f a (suc n) h =
     let x : a + suc n ≡ suc (a + n) = omega arith in

@@ -1,7 +1,7 @@
 // What the rows of an index say of a block, and the next and the previous block that has a sort.
-ghost use Rattle.std.specs.Prelude.{◌≡◌, suc, ◌-◌, ◌<◌, ◌≤◌};
+ghost use Rattle.std.specs.Prelude.{◌≡◌, ℕ, suc, ◌-◌, ◌<◌, ◌≤◌};
 ghost use Rattle.sets.specs.Search.{first_from, last_to};
-ghost use Rattle.zombit.specs.Meant.{blocks, bits_before_block, block_has, KindIs};
+ghost use Rattle.zombit.specs.Meant.{blocks, bits_before_block, block_has, KindIs, MixedAt};
 
 use super::index::Zombit;
 use super::kind::Kind;
@@ -29,6 +29,21 @@ impl<'a> Zombit<'a> {
         ensures few { result ≤ 69631 }
     {
         self.blocks.mixed_bits(self.uniform, k)
+    }
+
+    // The first block after the mixed block `k` that is not mixed; past the last where there is none.
+    pub(crate) fn mixed_to(&self, k: u32) -> u32
+        requires block { k < blocks self.now }
+        requires mixed { MixedAt self.now k }
+        ensures more { k < result }
+        ensures within { result ≤ blocks self.now }
+        ensures run { (i : ℕ) → k ≤ i → i < result → MixedAt self.now i }
+    {
+        let count = self.blocks.count();
+        match bits::next(self.uniform, Sort::Members, k + 1, count) {
+            Some(bit) => bit - 1,
+            None => count,
+        }
     }
 
     // The first block from bit `from` on that has a place of the sort, by its bit.

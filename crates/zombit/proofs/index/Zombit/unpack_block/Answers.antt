@@ -1,57 +1,43 @@
 -- What is left to show of `Zombit::unpack_block`.
-use Rattle.std.proofs.Common.{◌*◌, length, ◌∙◌, arith}
-use Rattle.zombit.specs.Meant.{U}
-use Rattle.zombit.proofs.Indexed.{bits_within, small_mixed}
-use Rattle.zombit.proofs.Unpacked.{whole_new, whole_old, next_all, next_bare, added_all, added_bare, added_mixed}
-use Rattle.zombit.proofs.Room.{bits_here}
+use Rattle.std.proofs.Common.{◌≡◌, ℕ, ◌+◌, ◌*◌, suc, min, true, false, List, length, sym, ap, subst, ◌∙◌, suc-mul, add-one, arith}
+use Rattle.zombit.specs.Meant.{U, O, bits_before_block}
+use Rattle.zombit.specs.Unpacking.{Unpacked}
+use Rattle.zombit.proofs.Room.{bits_on}
+use Rattle.zombit.proofs.Unpacked.{whole_new, whole_old, added_all, added_bare, block_bay}
 use Rattle.zombit.proofs.index.Zombit.unpack_block.Goals as goal
+use Rattle.zombit.proofs.index.Zombit.unpack_block.Goals.{then-get, else-get}
 
-pub overflow_add-start : goal.overflow_add-start
-overflow_add-start c =
+pub returns-clause-bits : goal.returns-clause-bits
+returns-clause-bits c =
     let z = c.args.self.now in
-    omega (arith, bits_within z _ c.requires.block c.in-Mixed.ensures, small_mixed z, c.requires.start)
+    let k = c.args.reached.block in
+    let uniform = ap (U z) (sym (add-one k)) ∙ sym c.if-not-get.ensures in
+    c.requires.bits ∙ sym (bits_on z.blocks.size (U z) k uniform) ∙ ap (bits_before_block z) (sym (add-one k))
 
-pub copy-requires-clause-within : goal.copy-requires-clause-within
-copy-requires-clause-within c =
+pub returns-clause-wrote : goal.returns-clause-wrote
+returns-clause-wrote c there =
     let z = c.args.self.now in
-    omega (arith, bits_within z _ c.requires.block c.in-Mixed.ensures, c.requires.start)
-
-pub overflow_add-result : goal.overflow_add-result
-overflow_add-result c =
-    let z = c.args.self.now in
-    omega (arith, bits_within z _ c.requires.block c.in-Mixed.ensures, small_mixed z, c.requires.start)
-
-pub returns-in-All-clause-next : goal.returns-in-All-clause-next
-returns-in-All-clause-next c = c.requires.start ∙ next_all c.args.self.now _ c.requires.block c.in-All.ensures
-
-pub returns-in-All-clause-bits : goal.returns-in-All-clause-bits
-returns-in-All-clause-bits c there =
+    let k = c.args.reached.block in
+    let β = z.blocks.size in
     let q = c.requires in
     let n = 8 * length c.args.out.now in
-    let place = c.place-first.ensures in
-    whole_new _ _ c.args.out.now _ c.mark.ensures.long (c.mark.ensures.bits n _ c.args.out.now (omega arith) (whole_old _ _ there) (omega arith))
-    (added_all c.args.self.now c.args.k q.block c.args.before c.args.end n q.low q.high q.order q.end
-    c.place-first.result c.max-from.result c.min-to.result (omega (arith, c.place-first.ensures)) c.max-from.ensures c.min-to.ensures c.in-All.ensures)
-
-pub returns-in-Bare-clause-next : goal.returns-in-Bare-clause-next
-returns-in-Bare-clause-next c = c.requires.start ∙ next_bare c.args.self.now _ c.requires.block c.in-Bare.ensures
-
-pub returns-in-Bare-clause-bits : goal.returns-in-Bare-clause-bits
-returns-in-Bare-clause-bits c there =
-    let q = c.requires in
-    there ∙ added_bare c.args.self.now c.args.k q.block c.args.before c.args.end (8 * length c.args.out.now) q.low q.high q.order q.end
-    c.place-first.result c.max-from.result c.min-to.result (omega (arith, c.place-first.ensures)) c.max-from.ensures c.min-to.ensures c.in-Bare.ensures
-
-pub returns-in-Mixed-clause-next : goal.returns-in-Mixed-clause-next
-returns-in-Mixed-clause-next c =
-    let z = c.args.self.now in
-    omega (arith, c.requires.start, bits_here z.blocks.size (U z) c.args.k c.in-Mixed.ensures)
-
-pub returns-in-Mixed-clause-bits : goal.returns-in-Mixed-clause-bits
-returns-in-Mixed-clause-bits c there =
-    let q = c.requires in
-    let n = 8 * length c.args.out.now in
-    let place = c.place-first.ensures in
-    whole_new _ _ c.args.out.now _ c.copy.ensures.long (c.copy.ensures.bits n _ c.args.out.now (omega arith) (whole_old _ _ there) (omega arith))
-    (added_mixed c.args.self.now c.args.k q.block c.args.before c.args.end n q.low q.high q.order q.end
-    c.place-first.result c.max-from.result c.min-to.result (omega (arith, c.place-first.ensures)) c.max-from.ensures c.min-to.ensures c.args.start q.start c.in-Mixed.ensures)
+    let e : ℕ = (k + 1) * β in
+    let next : e ≡ k * β + β = ap (λ (x : ℕ). x * β) (add-one k) ∙ suc-mul k β in
+    let uniform : U z (suc k) ≡ true = ap (U z) (sym (add-one k)) ∙ sym c.if-not-get.ensures in
+    let marked : O z (suc k) ≡ c.get-2.result = ap (O z) (sym (add-one k)) ∙ sym c.get-2.ensures in
+    elim c.if-get.branch [
+      | then-get w ↦
+          let all = block_bay z k true uniform (marked ∙ w.if-get.true) in
+          let to : w.min-to.result ≡ min c.args.end e = omega (arith, w.min-to.ensures, w.place-first.ensures, next) in
+          let first : w.place-first.result ≡ k * β = omega (arith, w.place-first.ensures) in
+          let from = w.max-from.ensures in
+          subst (λ (bytes : List ℕ). Unpacked z c.args.before e bytes) (sym w.out-is)
+          (whole_new _ _ c.args.out.now _ w.mark.ensures.long (w.mark.ensures.bits n _ c.args.out.now (omega arith) (whole_old _ _ there) (omega arith))
+          (added_all z k e c.args.before c.args.end n (omega (arith, next)) (omega (arith, next, q.low)) q.high q.order q.end
+          w.place-first.result w.max-from.result w.min-to.result first w.max-from.ensures to (λ b low high. all b low (omega (arith, high, next)))))
+      | else-get w ↦
+          let bare = block_bay z k false uniform (marked ∙ w.if-get.false) in
+          subst (λ (bytes : List ℕ). Unpacked z c.args.before e bytes) (sym w.out-is)
+          (there ∙ added_bare z k e c.args.before c.args.end n (omega (arith, next)) (omega (arith, next, q.low)) q.high q.order q.end
+          (λ b low high. bare b low (omega (arith, high, next))))
+    ]
