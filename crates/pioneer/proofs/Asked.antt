@@ -1,9 +1,9 @@
 -- The answers to the questions, by the run in which, or behind which, a bay falls.
-use Rattle.std.proofs.Common.{◌≡◌, ℕ, suc, ◌+◌, ◌-◌, ◌<◌, ◌≤◌, min, Bool, true, false, not, Some, None, Option, leb, ltb, refl, ap, ◌∙◌, ⊎_elim, arith}
+use Rattle.std.proofs.Common.{◌≡◌, ℕ, suc, ◌+◌, ◌-◌, ◌<◌, ◌≤◌, min, Bool, true, false, not, Some, None, Option, leb, ltb, refl, ap, ⊎_elim, arith}
 use Rattle.std.specs.Bool.{then_some}
-use Rattle.std.proofs.lemmas.Bool.{cases_Bool, cases_lt, leb-true, leb-false, ltb-true, ltb-false}
+use Rattle.std.proofs.lemmas.Bool.{cases_lt, leb-true, leb-false, ltb-true, ltb-false}
 use Rattle.sets.specs.Search.{first_from, last_to, count_to, kth_to}
-use Rattle.sets.proofs.Tests.{FirstIs, first_law, first_by, last_by, kth_by, count_here, count_on, count_mono, count_less}
+use Rattle.sets.proofs.Tests.{FirstIs, first_law, first_by, last_by, kth_by, count_mono, count_less}
 use Rattle.pioneer.specs.Runs.{place_of, start_of, sum_of, length_of, behind_of, in_run, IsRun, Lawful}
 use Rattle.pioneer.proofs.Places.{place_none, place_low, place_high}
 use Rattle.pioneer.proofs.Ranks.{none_yet, inside, outside, stands, begun_by, last_begun, rank_told}

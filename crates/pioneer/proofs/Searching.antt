@@ -2,13 +2,13 @@
 use Rattle.std.proofs.Common.{◌≡◌, ℕ, suc, ◌+◌, ◌-◌, ◌<◌, ◌≤◌, max, Bool, true, false, not, is_some, MatchOption, Some, None, Option, sym, refl, ap, subst, ◌∙◌, ⊎_elim, arith}
 use Rattle.std.proofs.lemmas.Bool.{cases_lt, both_ways}
 use Rattle.sets.specs.Search.{first_from, count_to, kth_to}
-use Rattle.sets.proofs.Tests.{FirstIs, first_law, kth_by, count_none, count_mono, count_without, count_others, count_at}
+use Rattle.sets.proofs.Tests.{FirstIs, first_law, kth_by, count_mono, count_without, count_others, count_at}
 use Rattle.pioneer.specs.declared.index.Pioneer.{Pioneer}
 use Rattle.pioneer.specs.declared.run.Run.{Run}
 use Rattle.pioneer.specs.Found.{starts_of, sums_of, member_of, BegunIs}
-use Rattle.pioneer.specs.Runs.{place_of, runs, start_of, sum_of, behind_of, IsRun}
+use Rattle.pioneer.specs.Runs.{place_of, start_of, sum_of, behind_of, IsRun}
 use Rattle.pioneer.proofs.Places.{place_none, one_more}
-use Rattle.pioneer.proofs.Ranks.{stands, begun_some, gap, begun_by, last_begun, outside, rank_told}
+use Rattle.pioneer.proofs.Ranks.{begun_some, gap, begun_by, last_begun, outside, rank_told}
 
 module _ (p : Pioneer) where
   abbrev u : ℕ

@@ -16,13 +16,16 @@ impl<'a> Walking for Pioneer<'a> {
     }
 
     fn holds(&self, i: u32) -> bool {
-        i <= self.last && self.held(i).is_some()
+        i <= self.last && (self.begins(i) || self.held(i).is_some())
     }
 
     fn next(&self, sort: Sort, i: u32) -> Option<u32> {
         let from = i.max(1);
         if from > self.last {
             return None;
+        }
+        if sort == Sort::Members && self.begins(from) {
+            return Some(from);
         }
         match (sort, self.held(from)) {
             (Sort::Members, None) => bits::next(self.starts, Sort::Members, from, self.last),

@@ -1,6 +1,6 @@
 // The run in which, or behind which, a bay falls.
-ghost use Rattle.std.specs.Prelude.{◌≤◌};
-ghost use Rattle.pioneer.specs.Found.{BegunIs, HeldIs};
+ghost use Rattle.std.specs.Prelude.{◌≡◌, ◌≤◌, true};
+ghost use Rattle.pioneer.specs.Found.{member_of, BegunIs, HeldIs};
 
 use super::index::Pioneer;
 use super::run::Run;
@@ -23,11 +23,22 @@ impl<'a> Pioneer<'a> {
         })
     }
 
-    // The run that bay `i` lies in.
+    // Whether a run begins at bay `i`: then it is a member, and no run has to be counted.
+    pub(crate) fn begins(&self, i: u32) -> bool
+        requires { i ≤ self.now.last }
+        ensures { result ≡ true → (1 ≤ i) × (member_of self.now i ≡ true) }
+    {
+        i > 0 && bits::get(self.starts, i)
+    }
+
+    // The run that bay `i` lies in. Where one begins at the next bay, none does, and no run has to be counted.
     pub(crate) fn held(&self, i: u32) -> Option<Run>
         requires { i ≤ self.now.last }
         ensures { HeldIs self.now i result }
     {
+        if i < self.last && bits::get(self.starts, i + 1) {
+            return None;
+        }
         self.begun(i).filter(|run| run.holds(i))
     }
 }

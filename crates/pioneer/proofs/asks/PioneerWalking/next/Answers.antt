@@ -1,5 +1,5 @@
 -- What is left to show of `PioneerWalking::next`.
-use Rattle.std.proofs.Common.{not, None, ap, ◌∙◌, arith}
+use Rattle.std.proofs.Common.{◌≡◌, not, None, ap, ◌∙◌, arith, rules}
 use Rattle.sets.specs.declared.Sort.TheVariants.{Members, Others}
 use Rattle.sets.proofs.Tests.{first_by}
 use Rattle.pioneer.specs.Found.{member_of}
@@ -10,6 +10,12 @@ use Rattle.pioneer.proofs.asks.PioneerWalking.next.Goals as goal
 pub returns-then-from-self : goal.returns-then-from-self
 returns-then-from-self c =
     next_by c.args.self.now c.args.sort c.args.i _ None c.max-from.ensures (first_by _ _ _ None (λ j a b. absurd (omega arith)))
+
+pub returns-then-begins : goal.returns-then-begins
+returns-then-begins c =
+    let p = c.args.self.now in
+    let sort : c.args.sort ≡ Members = search rules in
+    rw sort (next_by p Members _ _ _ c.max-from.ensures (first_here (member_of p) _ p.last c.if-from-self.false (c.begins.ensures c.if-begins.true).1))
 
 pub returns-in-Members-None : goal.returns-in-Members-None
 returns-in-Members-None c =

@@ -1,8 +1,8 @@
 -- What is left to show of `Pioneer::other`.
-use Rattle.std.proofs.Common.{◌≡◌, ◌+◌, ◌-◌, ◌<◌, ◌≤◌, not, None, inl, inr, sym, refl, ap, ◌∙◌, arith, rules}
+use Rattle.std.proofs.Common.{◌+◌, ◌-◌, ◌≤◌, None, inl, inr, sym, ap, ◌∙◌, arith, rules}
 use Rattle.sets.specs.Search.{count_to}
-use Rattle.sets.proofs.Tests.{kth_by, count_none, count_mono, count_le}
-use Rattle.pioneer.specs.Found.{member_of, starts_of}
+use Rattle.sets.proofs.Tests.{kth_by, count_none, count_mono}
+use Rattle.pioneer.specs.Found.{starts_of}
 use Rattle.pioneer.proofs.Finding.{all_others}
 use Rattle.pioneer.proofs.Unpacking.{sum_most}
 use Rattle.pioneer.proofs.Searching.{other_of, Told, told_of, before_run, still, found_kth, behind_most, some_run, none_of, some_beyond}
