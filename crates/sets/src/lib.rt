@@ -1,4 +1,4 @@
-// What a set of parking bays is, and the two interfaces by which one is asked. Beside them, the halving of a range by a test.
+// What a set of parking bays is, and the two interfaces by which one is asked.
 #![tactic(auto)]
 
 ghost use Rattle.std.specs.Prelude.{◌≡◌, ◌*◌, Bool, List, length};
@@ -6,12 +6,10 @@ ghost use Rattle.sets.specs.Laws.{SortsPart, NextSmallest, PreviousLargest, Rank
 ghost use Rattle.sets.specs.Packing.{pack, member_after};
 ghost use Rattle.sets.specs.Sets.{is_member, next_of, previous_of, rank_of, select_of, Sized};
 
-mod halving;
 mod lent;
 mod packed;
 mod shares;
 
-pub use halving::partition_point;
 use packed::byte_of;
 
 /// The bays of a garage that are in a set, or those that are not.
