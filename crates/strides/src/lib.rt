@@ -1,5 +1,6 @@
 // Two rows of bits, free bays and a class of bays, walked through together, 64 bits at a time: the bits that are in both, and how
-// many stretches begin. These are leaves for a round: they ask for rows of one length, and for room.
+// many stretches begin. This is a leaf for a round: it asks for whole words, for as many bits in each row as are to be passed, and for
+// numbers that fit.
 #![tactic(auto)]
 
 mod numbers;

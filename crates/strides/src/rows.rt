@@ -83,8 +83,9 @@ fn pass_apart(passed: Passed, free: &[u8], class: &[u8], left: u32) -> Passed
     passed
 }
 
-/// Passes the first `left` bits of the rows, 64 at a time, for as long as 64 numbers fit into the memory, and writes there the numbers
-/// of the bits that are in both.
+/// Passes the bits of the rows, 64 at a time, until the first `left` ones are passed or fewer than 64 numbers fit into the memory, and
+/// writes there the numbers of the bits that are in both. Of the last word all bits are passed; the stretches are those that begin up to
+/// the `left`-th bit.
 pub fn pass_rows(
     stance: Stance,
     free: &[u8],
@@ -99,6 +100,7 @@ pub fn pass_rows(
     requires whole { (length free.now % 8 ≡ 0) × (length class.now % 8 ≡ 0) }
     ensures passage { Passage (bit_at free.now) (bit_at class.now) stance first left out.old result out.new }
     ensures some { 1 ≤ left → 64 ≤ length out.old → 64 ≤ result.bits }
+    ensures stops { result.bits < left → length out.old < 64 + result.written }
 {
     let mut passed = Passed {
         bits: 0,

@@ -15,8 +15,8 @@ fn carried(own: u64, other: u64, was: bool) -> (u64, bool)
     (sum ^ !(own | other), past)
 }
 
-/// The bits of 64 at which a stretch begins, and the stance behind them.
-pub fn pass(stance: Stance, free: u64, class: u64) -> (u64, Stance)
+// The bits of 64 at which a stretch begins, and the stance behind them.
+pub(crate) fn pass(stance: Stance, free: u64, class: u64) -> (u64, Stance)
     ensures starts { Holds (begins (row_of free) (row_of class) stance) 0 64 result.0 }
     ensures stance { result.1 ≡ after (row_of free) (row_of class) stance 64 }
 {
