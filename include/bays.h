@@ -1,14 +1,16 @@
 /* Sets of parking bays for C: the proved libraries, in libbays.a. docs/LIBRARY.md tells more.
  *
  * A set is the bays 1 to its last bay, which is from 1 to 65,535, each a member or not. An index is a set in bytes, in one of four forms;
- * its bytes are the caller's. Nothing is copied, allocated, kept between calls or shared between threads: what a call answers follows from
- * what it is passed.
+ * its bytes are the caller's. Nothing is allocated, kept between calls or shared between threads: what a call answers follows from what it is
+ * passed. On the stack a sheet takes bays into 2 KB of memory, and measuring and filling into up to 9 KB, once for each of the two.
  *
  * Each memory is passed as a pointer and how many elements lie there (of a uint16_t memory numbers, and not bytes). What every call asks of
  * its caller, and cannot test:
- * - a pointer is not null, and is aligned, also where its length is 0: pass bays_no_bytes or bays_no_numbers for a memory that there is not;
- * - so many elements can be read there, or written where the pointer is not to const, and no memory is longer than PTRDIFF_MAX bytes;
- * - a memory that the call writes to overlaps none of the other memories and structs of the call; those that it only reads may overlap;
+ * - a pointer is not null, and is aligned, also where its length is 0: for a memory that there is not pass bays_no_bytes or bays_no_numbers,
+ *   or, where it would be written, the address of any element of one's own;
+ * - so many elements, and of a struct one, can be read there, or written where the pointer is not to const, and no memory is longer than
+ *   PTRDIFF_MAX bytes;
+ * - a memory or struct that the call writes to overlaps none of the other memories and structs of the call; those that it only reads may;
  * - nobody else writes to any of them during the call.
  * Every call answers for all contents and numbers else.
  */

@@ -16,6 +16,10 @@ fn main() {
     });
     println!("cargo:rerun-if-changed={}", library.display());
     let folder = library.parent().expect("a file lies in a folder");
+    let name = library.file_name().expect("a file has a name");
     println!("cargo:rustc-link-search=native={}", folder.display());
-    println!("cargo:rustc-link-lib=static=bays");
+    println!(
+        "cargo:rustc-link-lib=static:+verbatim={}",
+        name.to_string_lossy()
+    );
 }

@@ -12,8 +12,9 @@ pub struct Index {
 
 impl Index {
     /// The index of these parts, one behind the other, in bytes or, for a list, in 16-bit numbers; or why it is not lawful. What lies
-    /// behind the parts is cut off.
+    /// behind the parts is cut off, and what the form does not look at is 0 in what is told of it.
     pub fn open(told: Told, bytes: Vec<u8>, numbers: Vec<u16>) -> Result<Index, Fault> {
+        let told = told.looked_at();
         let mut index = Index {
             told,
             bytes,

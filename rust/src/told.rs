@@ -28,14 +28,31 @@ impl Told {
         }
     }
 
-    /// How many bytes the parts take together, up to the largest `usize`.
+    /// How many bytes the parts of the form take together, up to the largest `usize`.
     pub fn bytes(&self) -> usize {
         match self.form {
-            1 => 0,
-            _ => self
+            0 => self.first,
+            2 => self
                 .first
                 .saturating_add(self.second)
                 .saturating_add(self.third),
+            3 => self.first.saturating_add(self.second),
+            _ => 0,
+        }
+    }
+
+    /// The same, with 0 for what the form does not look at.
+    pub fn looked_at(&self) -> Told {
+        let (number, second, third) = match self.form {
+            2 => (self.number, self.second, self.third),
+            3 => (self.number, self.second, 0),
+            _ => (0, 0, 0),
+        };
+        Told {
+            number,
+            second,
+            third,
+            ..*self
         }
     }
 

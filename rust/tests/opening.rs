@@ -71,3 +71,17 @@ fn whatever_it_is_the_verdicts_agree() {
         compare(&stored);
     }
 }
+
+#[test]
+fn what_lies_behind_the_parts_is_cut_off() {
+    let told = Told {
+        form: 0,
+        last: 16,
+        number: 9,
+        first: 2,
+        second: 5,
+        third: 7,
+    };
+    let index = Index::open(told, vec![135, 7, 9, 9, 9], vec![1]);
+    assert_eq!(index, Index::of_bits(16, &[135, 7]));
+}
