@@ -34,12 +34,16 @@ impl<F: Counting, C: Walking> Round<F, C> {
         self.free.last().min(self.class.last())
     }
 
-    // The larger of the next members at `p` in a round that ends at `w`, which a walk asks once.
+    // The larger of the next members at `p` in a round that ends at `w`, which a walk asks once. Where the free set has none, it is
+    // w + 1, and the class is not asked.
     pub(crate) fn stretch_end(&self, w: u32, p: u32) -> u32
         requires { w ≡ last_bay self.now }
         ensures { result ≡ larger (free_of self.now) (class_of self.now) p }
     {
         let in_free = next_within(&self.free, w, p);
+        if in_free > w {
+            return in_free;
+        }
         let in_class = next_within(&self.class, w, p);
         in_free.max(in_class)
     }
