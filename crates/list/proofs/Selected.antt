@@ -1,5 +1,5 @@
 -- Which bay the n-th of a sort is.
-use Rattle.std.proofs.Common.{◌≡◌, ℕ, ◌+◌, ◌-◌, ◌≤◌, Bool, false, leb, not, List, length, get_or, Some, None, ap, ◌∙◌, inl, inr, ⊎_elim, arith}
+use Rattle.std.proofs.Common.{◌≡◌, ℕ, ◌+◌, ◌-◌, ◌<◌, ◌≤◌, Bool, false, leb, not, ◌⊎◌, List, length, get_or, Some, None, ap, ◌∙◌, inl, inr, ⊎_elim, arith}
 use Rattle.std.specs.Bool.{then_some}
 use Rattle.std.specs.List.{slice_get}
 use Rattle.std.proofs.lemmas.Bool.{cases_lt, le-leb, lt-leb}
@@ -10,16 +10,19 @@ use Rattle.sets.specs.Made.{of_sort}
 use Rattle.sets.specs.Search.{count_to}
 use Rattle.sets.specs.Sets.{select_of}
 use Rattle.sets.proofs.Made.{made_select}
-use Rattle.sets.proofs.Tests.{count_less, count_others, kth_by}
+use Rattle.sets.proofs.Tests.{count_le, count_less, count_others, kth_by}
 use Rattle.list.specs.Decoding.{is_among, set_of}
 use Rattle.list.specs.Places.{Inside, Climbs}
 use Rattle.list.proofs.Members.{among_at}
 use Rattle.list.proofs.Places.{count_place, count_all}
 
 module _ (u : ℕ) (ns : List ℕ) where
-  -- there is no 0-th
-  pub select_none : (k : Sort) (n : ℕ) → n ≡ 0 → None ≡ select_of (set_of u ns) k n
-  select_none k n z = kth_by (of_sort k (is_among ns)) n u None (inl z) ∙ made_select u (is_among ns) k n
+  -- there is no 0-th, and no more than there are bays
+  pub select_outside : (k : Sort) (n : ℕ) → (n ≡ 0) ⊎ (u < n) → None ≡ select_of (set_of u ns) k n
+  select_outside k n out =
+      kth_by (of_sort k (is_among ns)) n u None
+      (⊎_elim (λ z. inl z) (λ past. inr (omega (arith, count_le (of_sort k (is_among ns)) u))) out)
+      ∙ made_select u (is_among ns) k n
 
   -- the n-th of the others has as many members before it as it is above n
   pub select_other : (n r : ℕ) → 1 ≤ n → r ≡ count_to (is_among ns) (n + r) → is_among ns (n + r) ≡ false

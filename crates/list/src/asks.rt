@@ -47,6 +47,9 @@ impl<'a> Counting for List<'a> {
 
     fn select(&self, sort: Sort, n: u32) -> Option<u32> {
         let place = n.checked_sub(1)?;
+        if n > self.last {
+            return None;
+        }
         match sort {
             Sort::Members => self
                 .numbers

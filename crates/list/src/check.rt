@@ -25,12 +25,12 @@ fn ends_within(numbers: &[u16], last: u32) -> bool
     numbers.is_empty() || (numbers[0] > 0 && numbers[numbers.len() - 1] as u32 <= last)
 }
 
-// Checks that the numbers are strictly rising from 1 to `last`.
+// Checks that the numbers are strictly rising from 1 to `last`. More numbers than bays cannot be, and are not looked at.
 pub(crate) fn check_rising(numbers: &[u16], last: u32) -> Result<(), Flaw>
     ensures answer { result ≡ list_check last numbers.now }
     ensures law { CheckIs 3 (RisesWithin last numbers.now) result }
 {
-    if ends_within(numbers, last) && steps(numbers) {
+    if numbers.len() <= last as usize && ends_within(numbers, last) && steps(numbers) {
         Ok(())
     } else {
         Err(Flaw::Content)

@@ -25,10 +25,10 @@ impl<'a> List<'a> {
     pub(crate) fn nth_other(&self, n: u32) -> Option<u32>
         ensures { result ≡ select_of (set_of self.now.last self.now.numbers.now) Others n }
     {
-        if n == 0 {
+        if n == 0 || n > self.last {
             return None;
         }
-        let bay = n.checked_add(self.members_before(n))?;
+        let bay = n + self.members_before(n);
         (bay <= self.last).then_some(bay)
     }
 }
