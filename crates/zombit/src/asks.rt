@@ -64,7 +64,7 @@ impl<'a> Counting for Zombit<'a> {
     }
 
     fn select(&self, sort: Sort, n: u32) -> Option<u32> {
-        if n == 0 {
+        if n == 0 || n > self.rank(sort, self.blocks.last) {
             return None;
         }
         let none = Passed {
@@ -73,7 +73,8 @@ impl<'a> Counting for Zombit<'a> {
             members: 0,
         };
         let group = self.pass(sort, n, none, 64);
-        let passed = self.pass(sort, n, group, 1);
+        let eight = self.pass(sort, n, group, 8);
+        let passed = self.pass(sort, n, eight, 1);
         if passed.block == self.blocks.count() {
             return None;
         }

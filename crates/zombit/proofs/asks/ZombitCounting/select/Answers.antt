@@ -1,14 +1,27 @@
 -- What is left to show of `ZombitCounting::select`.
-use Rattle.std.proofs.Common.{◌≡◌, ℕ, ◌+◌, ◌*◌, ◌≤◌, ap, ◌∙◌, inl, inr, zero-mul, suc-mul, add-one, arith}
+use Rattle.std.proofs.Common.{◌≡◌, ℕ, ◌+◌, ◌*◌, ◌≤◌, None, ap, ◌∙◌, inl, inr, zero-mul, suc-mul, add-one, arith}
 use Rattle.sets.specs.Search.{count_to}
 use Rattle.sets.proofs.Tests.{count_none}
-use Rattle.zombit.specs.Meant.{blocks, sorted, cut_at}
+use Rattle.sets.proofs.Only.{select_by}
+use Rattle.sets.specs.Made.{made_length}
+use Rattle.sets.specs.Sets.{rank_of}
+use Rattle.zombit.specs.Meant.{blocks, bays, meaning, sorted, cut_at}
 use Rattle.zombit.proofs.Asked.{select_is, select_none}
 use Rattle.zombit.proofs.Onward.{none_passed}
 use Rattle.zombit.proofs.asks.ZombitCounting.select.Goals as goal
+use Rattle.zombit.proofs.asks.ZombitCounting.select.Goals.{then-n-eq0-via-then-n-eq0, then-n-eq0-via-else-n-eq0+then-n-rank}
 
 pub returns-then-n-eq0 : goal.returns-then-n-eq0
-returns-then-n-eq0 c = select_none c.args.self.now _ _ (inl c.if-n-eq0.true)
+returns-then-n-eq0 c =
+    let z = c.args.self.now in
+    let s = meaning z in
+    let sort = c.args.sort in
+    elim c.then-n-eq0.branch [
+      | then-n-eq0-via-then-n-eq0 w ↦ select_by s sort c.args.n None (inl w.if-n-eq0.true)
+      | then-n-eq0-via-else-n-eq0+then-n-rank w ↦
+          let last = made_length z.blocks.last (bays z) in
+          select_by s sort c.args.n None (inr (omega (arith, w.if-n-rank.true, w.rank.ensures, ap (rank_of s sort) last)))
+    ]
 
 pub pass-group-requires-clause-is : goal.pass-group-requires-clause-is
 pass-group-requires-clause-is c = none_passed c.args.self.now
