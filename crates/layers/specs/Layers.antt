@@ -43,9 +43,9 @@ last_in a b s = max (first_in a s) (min b (length s))
 abbrev pub level_in : ℕ → ℕ → List Bool → List Bool
 level_in a b s = level (first_in a s) (last_in a b s) s
 
--- the bays c to d are the bays a to b, cut to bays of the set
+-- the bays c to d are the bays a to b, cut to bays of the set; the level of the ones is the level of the others
 abbrev pub IsCut : ℕ → ℕ → List Bool → ℕ → ℕ → Type 0
-IsCut a b s c d = (c ≡ first_in a s) × (d ≡ last_in a b s)
+IsCut a b s c d = (c ≡ first_in a s) × (d ≡ last_in a b s) × (level_in c d s ≡ level_in a b s)
 
 pub level_sized : (a b : ℕ) (s : List Bool) → Sized s → Sized (level_in a b s)
 level_sized a b s h =

@@ -16,8 +16,11 @@ impl<S: Counting> Walking for Level<S> {
     }
 
     fn holds(&self, i: u32) -> bool {
-        let bay = self.beneath(i);
-        (self.first..=self.last).contains(&bay) && self.below.holds(bay)
+        if i == 0 || i > self.last() {
+            return false;
+        }
+        let bay = self.before() + i;
+        self.below.holds(bay)
     }
 
     fn next(&self, sort: Sort, i: u32) -> Option<u32> {

@@ -25,7 +25,7 @@ impl<S: Counting> Level<S> {
         ensures { result ≡ lifted (self.now.first - 1) (self.now.last - self.now.first + 1) bay }
     {
         let before = self.before();
-        bay.filter(|q| (self.first..=self.last).contains(q))
+        bay.filter(|q| self.first <= *q && *q <= self.last)
             .map(|q| q - before)
     }
 }

@@ -49,7 +49,7 @@ impl<S: Counting> Walking for Turned<S> {
     }
 
     fn holds(&self, i: u32) -> bool {
-        (1..=self.below.last()).contains(&i) && !self.below.holds(i)
+        i > 0 && i <= self.below.last() && !self.below.holds(i)
     }
 
     fn next(&self, sort: Sort, i: u32) -> Option<u32> {
