@@ -18,8 +18,8 @@ pub struct PairFault {
 }
 
 impl Side {
-    // A fault of the index of this side.
-    pub(crate) fn of(self, fault: Fault) -> PairFault
+    /// A fault of the index of this side.
+    pub fn of(self, fault: Fault) -> PairFault
         ensures { result ≡ record { side = self; fault = fault } }
     {
         PairFault { side: self, fault }
